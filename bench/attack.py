@@ -291,7 +291,8 @@ def forging(top, rng, tries):
         write(place.path(present), "int x\n")
         run = place.start([present, absent])
         _, err = run.communicate()
-        lines = f"spatch: {shown(present)}: reading 0: item 0 not read: no tree\nspatch: {shown(absent)}: cannot read\n"
+        lines = f"spatch: {shown(present)}: reading 0: item 0 not read: no tree\n  {shown(present)}:1:1: no tree\n"
+        lines += f"spatch: {shown(absent)}: cannot read\n"
         report = subprocess.run([PROGRAM, "--sp-file", "alpha", "--witnesses", present], cwd=place.top, capture_output=True)
         wrong += run.returncode != 5 or err != lines.encode() or report.stdout != f"file {shown(present)}\nrule 0 -\n".encode()
         place.gone()

@@ -8,9 +8,10 @@ rng = random.Random(int(seed))
 files = [l.strip() for l in open(listed)]
 patches = sorted(glob.glob(patches + "/*.cocci"))
 LINES = [re.compile(p, re.S) for p in (
-    rb"spatch: p: patch fault (1|([2-8]|1[0-2]|1[56]) at \d+|(9|17) in rule \d+|1[34] of [A-Za-z_]\w*)\n\Z",
+    rb"spatch: p: patch fault (1|(([2-8]|1[0-2]|1[56]) at \d+|(9|17) in rule \d+|1[34] of [A-Za-z_]\w*)\n  p:\d+:\d+: [^\n]+)\n\Z",
     rb"(spatch: k\d?\.c: (reading \d+: item \d+ not read: (no tree|too deep|too many nodes)"
-    rb"|refused: (file too long( after rule \d+)?|conflict in rule \d+ at token \d+|too many (witnesses in|environments after) rule \d+))\n)*\Z")]
+    rb"|refused: (file too long( after rule \d+)?|conflict in rule \d+ at token \d+|too many (witnesses in|environments after) rule \d+))\n"
+    rb"(  k\d?\.c:\d+:\d+: (no tree|too deep|too many nodes|conflict in rule \d+)\n)?)*\Z")]
 
 
 def cut(data):

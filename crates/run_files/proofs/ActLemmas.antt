@@ -107,6 +107,18 @@ any_default (y ∷ ys) (suc i) d e lt = any_default ys i d e (omega arith)
 pub own_default : {A : Type 0} (xs : List A) (i : ℕ) (d : A) → i < length xs → get_or xs i d ≡ get_or xs i (get_or xs i d)
 own_default xs i d lt = any_default xs i d (get_or xs i d) lt
 
+-- no element, no act
+pub no_acts : {A : Type 0} (f : A → Act) (xs : List A) (old : Observed) → length xs ≡ 0 → Does (map f xs) old old
+no_acts f [] old none = record { observed = refl }
+no_acts f (x ∷ xs) old none = absurd (omega (arith, none))
+
+-- memory ran out before the act of the first element
+pub stops_unfed_first : {A : Type 0} (f : A → Act) (xs : List A) (before now : Counts) (old : Observed) → 0 < length xs
+    → Stops (map f xs) before now old old 7
+stops_unfed_first f [] before now old some = absurd (omega arith)
+stops_unfed_first f (x ∷ xs) before now old some =
+    record { part = []; act = f x; rest = map f xs; is = refl; breaks = inl (refl, refl) }
+
 -- ---- printing
 
 pub printing_some : (text : List ℕ) → 0 < length text → printing text ≡ Print text ∷ []

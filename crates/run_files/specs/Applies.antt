@@ -7,18 +7,22 @@ use Rattle.rule_chain.specs.RuleRun.States.{Chained}
 use Rattle.rule_chain.specs.declared.state.Applied.{Applied}
 use Rattle.rule_chain.specs.Chain.{Chain, Done, Refused}
 use Rattle.rule_chain.specs.Results.{AnswersState}
-use Rattle.run_files.specs.RunLines.Files.{refused_line}
-use Rattle.run_files.specs.Treatment.{Treated, refuses}
+use Rattle.c_places.specs.declared.places.TextPlaces.{TextPlaces}
+use Rattle.c_places.specs.Starts.{ArePlaces}
+use Rattle.run_files.specs.RunLines.Files.{refused_line, fault_place}
+use Rattle.run_files.specs.Treatment.{Treated, faulted}
 use Rattle.run_files.specs.Does.{Does}
 
 -- the bytes are refused under the patch, and this is their treatment
 abbrev pub Refuses : Patch → List (List ℕ) → List ℕ → List ℕ → Treated → Type 0
 Refuses patch defined name bytes treated =
-    (fault : FileFault) × (Chain patch.rules defined bytes (Refused fault) × (treated ≡ refuses (refused_line name fault)))
+    (fault : FileFault) × (Chain patch.rules defined bytes (Refused fault)
+    × ((places : TextPlaces) × (ArePlaces bytes places × (treated ≡ faulted name bytes places fault))))
 
 -- the last state is returned, and nothing is output; or the text is refused, and its line is reported
 abbrev pub AppliesTo : Patch → List (List ℕ) → List ℕ → List ℕ → Option Applied → Observed → Observed → Type 0
 AppliesTo patch defined name bytes (Some applied) old new =
     (s : Chained) × (Chain patch.rules defined bytes (Done s) × (AnswersState applied s × (new ≡ old)))
 AppliesTo patch defined name bytes None old new =
-    (fault : FileFault) × (Chain patch.rules defined bytes (Refused fault) × Does (Report (refused_line name fault) ∷ []) old new)
+    (fault : FileFault) × (Chain patch.rules defined bytes (Refused fault)
+    × ((places : TextPlaces) × (ArePlaces bytes places × Does (Report (refused_line name (fault_place bytes places fault) fault) ∷ []) old new)))

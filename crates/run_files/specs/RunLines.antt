@@ -1,5 +1,6 @@
 -- Definitions of run_lines.
 -- The lines on the error output, and the summary of a generated text.
+pub mod Further
 pub mod Words
 pub mod Patches
 pub mod Files

@@ -5,10 +5,14 @@ use Rattle.c_lexer.specs.Pieces.{most_bytes}
 use Rattle.outer_io.specs.Files.{Files}
 use Rattle.run_acts.specs.Acts.{Act, Store, Print, Report}
 use Rattle.run_words.specs.declared.order.Mode.{Mode}
-use Rattle.run_files.specs.RunLines.Files.{too_long_line, special_line, refused_line, skipped_line}
+use Rattle.c_places.specs.declared.places.TextPlaces.{TextPlaces}
+use Rattle.c_places.specs.Starts.{ArePlaces}
+use Rattle.run_files.specs.RunLines.Files.{too_long_line, special_line, refused_line, skipped_line, fault_place, note_place}
 use Rattle.run_files.specs.RunLines.Summary.{summary}
 use Rattle.smpl_patch.specs.declared.rule.Patch.{Patch}
 use Rattle.wit_print.specs.Report.{report_of}
+use Rattle.rule_chain.specs.declared.rule_run.fault.FileFault.{FileFault}
+use Rattle.rule_chain.specs.declared.rule_run.state.SkipNote.{SkipNote}
 use Rattle.rule_chain.specs.RuleRun.States.{Chained}
 use Rattle.rule_chain.specs.Chain.{Chain, Outcome, Done, Refused}
 
@@ -39,9 +43,17 @@ printing (byte ∷ text) = Print (byte ∷ text) ∷ []
 abbrev pub storing : List ℕ → List ℕ → List ℕ → List Act
 storing name old new = cond (same_bytes old new) [] (Store name new ∷ [])
 
+-- the line of a skipped item, by where the items of the loaded text begin
+abbrev pub note_act : List ℕ → List ℕ → TextPlaces → SkipNote → Act
+note_act name text places note = Report (skipped_line name (note_place text places note) note)
+
 -- the lines of the skipped items, reading by reading
-abbrev pub skipped_lines : List ℕ → Chained → List Act
-skipped_lines name s = map (λ note. Report (skipped_line name note)) s.skipped
+abbrev pub skipped_lines : List ℕ → List ℕ → TextPlaces → Chained → List Act
+skipped_lines name text places s = map (note_act name text places) s.skipped
+
+-- a refused text leads to the line of its fault, by where the tokens of the loaded text begin
+abbrev pub faulted : List ℕ → List ℕ → TextPlaces → FileFault → Treated
+faulted name text places fault = refuses (refused_line name (fault_place text places fault) fault)
 
 -- what is printed: the report of the witnesses if it is asked for, or else the text if it isn't stored
 abbrev pub shown : Mode → Patch → List ℕ → Chained → List Act
@@ -54,22 +66,24 @@ stored_after mode name bytes s = cond mode.in_place (storing name bytes s.page.b
 
 -- ---- texts
 
--- what results from the outcome of the rules over a file
-abbrev pub treated_by : Mode → Patch → List ℕ → List ℕ → Outcome → Treated
-treated_by mode patch name bytes (Done s) = effects (skipped_lines name s ++ shown mode patch name s ++ stored_after mode name bytes s)
-treated_by mode patch name bytes (Refused fault) = refuses (refused_line name fault)
+-- what results from the outcome of the rules over a file whose tokens and items begin at these places
+abbrev pub treated_by : Mode → Patch → List ℕ → List ℕ → TextPlaces → Outcome → Treated
+treated_by mode patch name bytes places (Done s) =
+    effects (skipped_lines name bytes places s ++ shown mode patch name s ++ stored_after mode name bytes s)
+treated_by mode patch name bytes places (Refused fault) = faulted name bytes places fault
 
 -- what results from the outcome of the rules over a generated text
-abbrev pub summed_by : Patch → List ℕ → Outcome → Treated
-summed_by patch name (Done s) = effects (skipped_lines name s ++ printing (summary patch.rules s.found (length s.page.bytes)))
-summed_by patch name (Refused fault) = refuses (refused_line name fault)
+abbrev pub summed_by : Patch → List ℕ → List ℕ → TextPlaces → Outcome → Treated
+summed_by patch name bytes places (Done s) =
+    effects (skipped_lines name bytes places s ++ printing (summary patch.rules s.found (length s.page.bytes)))
+summed_by patch name bytes places (Refused fault) = faulted name bytes places fault
 
 -- this is the treatment of the bytes of a file of this name: there are too many, or it follows from the outcome of the rules
 abbrev pub IsTreatmentOf : Mode → Patch → List (List ℕ) → List ℕ → List ℕ → Treated → Type 0
 IsTreatmentOf mode patch defined name bytes treated =
     ((file_limit < length bytes) × (treated ≡ refuses (too_long_line name)))
     ⊎ ((length bytes ≤ file_limit) × ((end : Outcome) × (Chain patch.rules defined bytes end
-    × (treated ≡ treated_by mode patch name bytes end))))
+    × ((places : TextPlaces) × (ArePlaces bytes places × (treated ≡ treated_by mode patch name bytes places end))))))
 
 -- This is the treatment of what is stored under this name, with these bytes. If the shelf doesn't reveal what it holds, it may
 -- also be a pipe, a device or a socket, which is refused.
@@ -81,4 +95,5 @@ IsFileTreatmentOf holds mode patch defined name bytes treated =
 -- this is the treatment of a generated text
 abbrev pub Sums : Patch → List (List ℕ) → List ℕ → List ℕ → Treated → Type 0
 Sums patch defined name bytes treated =
-    (end : Outcome) × (Chain patch.rules defined bytes end × (treated ≡ summed_by patch name end))
+    (end : Outcome) × (Chain patch.rules defined bytes end
+    × ((places : TextPlaces) × (ArePlaces bytes places × (treated ≡ summed_by patch name bytes places end))))

@@ -10,11 +10,19 @@ ghost use Rattle.run_files.specs.Cuts.{TreatsPart};
 ghost use Rattle.run_files.specs.Applies.{AppliesTo, Refuses};
 
 use crate::effects::refuse;
+use c_terms::NoMemory;
 use outer_io::Sink;
 use par_match::{Gate, Workers};
 use rule_chain::{Applied, FileFault, PatchRules, apply};
 use run_acts::Stopped;
+use std::alloc::Global;
 use std::thread::Threads;
+
+fn copied(alloc: Global, bytes: &[u8]) -> Result<Vec<u8>, NoMemory>
+    ensures { IfOk result (λ copy. copy.items ≡ bytes.now) }
+{
+    Ok(Vec::from_slice(alloc, bytes)?)
+}
 
 /// Whether memory ran out, so that nothing is known to be wrong with the file.
 fn is_no_memory(fault: &FileFault) -> bool
@@ -24,31 +32,32 @@ fn is_no_memory(fault: &FileFault) -> bool
 }
 
 /// Applies the patch to the bytes and returns the result. Returns `None` if they are refused, after reporting the line of the
-/// refusal.
+/// refusal. Works on a copy of the bytes.
 pub fn apply_or_refuse<R: Threads + Sync, E: Sink, G: Gate>(
     workers: &Workers<'_, R, G>,
     rules: &PatchRules<'_>,
     name: &str,
-    bytes: Vec<u8>,
+    bytes: &[u8],
     err: &mut E,
 ) -> Result<Option<Applied>, Stopped>
-    requires short { length bytes.items ≤ most_bytes }
+    requires short { length bytes.now ≤ most_bytes }
     ensures done { IfOk result (λ applied. (files : Option Files) (stores : ℕ) (out : Option (List ℕ)) →
-        AppliesTo rules.now.patch.now rules.now.defined.now name.now bytes.items applied
+        AppliesTo rules.now.patch.now rules.now.defined.now name.now bytes.now applied
         (observed files stores out (E.written err.old)) (observed files stores out (E.written err.new))) }
     ensures later { E.faults err.old ≤ E.faults err.new }
     ensures stopped { IfErr result (λ stopped. (files : Option Files) (out : Option (List ℕ)) (stores s o s' o' : ℕ) →
-        TreatsPart (Refuses rules.now.patch.now rules.now.defined.now name.now bytes.items)
+        TreatsPart (Refuses rules.now.patch.now rules.now.defined.now name.now bytes.now)
         (counts s o (E.faults err.old)) (counts s' o' (E.faults err.new))
         (observed files stores out (E.written err.old)) (observed files stores out (E.written err.new)) (status_of stopped)) }
 {
-    match apply(workers, rules, bytes) {
+    let copy = copied(workers.alloc, bytes)?;
+    match apply(workers, rules, copy) {
         Ok(applied) => Ok(Some(applied)),
         Err(fault) => {
             if is_no_memory(&fault) {
                 return Err(Stopped::NoMemory);
             }
-            refuse(workers.alloc, err, name, &fault)?;
+            refuse(workers.alloc, err, name, bytes, &fault)?;
             Ok(None)
         }
     }

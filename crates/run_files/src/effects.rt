@@ -5,37 +5,88 @@ ghost use Rattle.run_acts.specs.Acts.{Report, observed};
 ghost use Rattle.run_acts.specs.Breaks.{counts};
 ghost use Rattle.run_acts.specs.Statuses.{status_of};
 ghost use Rattle.run_files.specs.RunLines.Files as lines;
-ghost use Rattle.run_files.specs.Treatment.{printing, storing};
+ghost use Rattle.c_places.specs.declared.places.TextPlaces.{TextPlaces as Found};
+ghost use Rattle.c_places.specs.Starts.{ArePlaces};
+ghost use Rattle.run_files.specs.Treatment.{printing, storing, note_act};
 ghost use Rattle.run_files.specs.Does.{Does, Stops};
 
-use crate::run_lines::{refused_line, skipped_line, special_line, too_long_line};
+use crate::run_lines::{
+    placed, placed_on, refused_line, skipped_line, special_line, too_long_line,
+};
+use c_places::{TextPlaces, places_are_one, places_in};
 use c_terms::{NoMemory, same_text};
 use outer_io::{Shelf, Sink};
 use rule_chain::{FileFault, SkipNote};
 use run_acts::{Stopped, print, report, store};
+use sqlite_items::at;
 use std::alloc::Global;
+use text_places::{Place, Places};
 
-/// Reports a line for each skipped item.
+/// Returns where an item that a reading skipped begins in the text that was loaded, if that is the text of the reading.
+fn note_start(found: &TextPlaces, note: &SkipNote) -> Option<u32>
+    ensures { result ≡ lines.note_start found.now note.now }
+{
+    if note.reading == 0 {
+        at(found.items.as_slice(), note.item as usize).copied()
+    } else {
+        None
+    }
+}
+
+/// Reports a line for each skipped item, given where the items of the loaded text begin.
+fn report_notes<E: Sink>(
+    alloc: Global,
+    err: &mut E,
+    name: &str,
+    found: &TextPlaces,
+    text: &[u8],
+    notes: &[SkipNote],
+) -> Result<(), Stopped>
+    ensures done { OnOk result ((files : Option Files) (stores : ℕ) (out : Option (List ℕ)) →
+        Does (map (note_act name.now text.now found.now) notes.now)
+        (observed files stores out (E.written err.old)) (observed files stores out (E.written err.new))) }
+    ensures later { E.faults err.old ≤ E.faults err.new }
+    ensures stopped { IfErr result (λ stopped. (files : Option Files) (out : Option (List ℕ)) (stores s o s' o' : ℕ) →
+        Stops (map (note_act name.now text.now found.now) notes.now)
+        (counts s o (E.faults err.old)) (counts s' o' (E.faults err.new))
+        (observed files stores out (E.written err.old)) (observed files stores out (E.written err.new)) (status_of stopped)) }
+{
+    let mut places = Places::of(text);
+    for note in notes {
+        let place = placed_on(&mut places, note_start(found, note));
+        let line = skipped_line(alloc, name, place, note)?;
+        report(err, &line)?;
+    }
+    Ok(())
+}
+
+/// Reports a line for each skipped item of the text that was loaded.
+///
+/// Linear in the lines, and, if there are any, in the text, which is cut once more.
 pub fn report_skipped<E: Sink>(
     alloc: Global,
     err: &mut E,
     name: &str,
+    text: &[u8],
     notes: &[SkipNote],
 ) -> Result<(), Stopped>
-    ensures done { OnOk result ((files : Option Files) (stores : ℕ) (out : Option (List ℕ)) →
-        Does (map (λ note. Report (lines.skipped_line name.now note)) notes.now)
+    ensures done { OnOk result ((found : Found) → ArePlaces text.now found → (files : Option Files) (stores : ℕ) (out : Option (List ℕ)) →
+        Does (map (note_act name.now text.now found) notes.now)
         (observed files stores out (E.written err.old)) (observed files stores out (E.written err.new))) }
     ensures later { E.faults err.old ≤ E.faults err.new }
-    ensures stopped { IfErr result (λ stopped. (files : Option Files) (out : Option (List ℕ)) (stores s o s' o' : ℕ) →
-        Stops (map (λ note. Report (lines.skipped_line name.now note)) notes.now)
+    ensures stopped { IfErr result (λ stopped. (found : Found) → ArePlaces text.now found →
+        (files : Option Files) (out : Option (List ℕ)) (stores s o s' o' : ℕ) →
+        Stops (map (note_act name.now text.now found) notes.now)
         (counts s o (E.faults err.old)) (counts s' o' (E.faults err.new))
         (observed files stores out (E.written err.old)) (observed files stores out (E.written err.new)) (status_of stopped)) }
 {
-    for note in notes {
-        let line = skipped_line(alloc, name, note)?;
-        report(err, &line)?;
+    if notes.is_empty() {
+        return Ok(());
     }
-    Ok(())
+    // A law: does nothing. The places that are found here are those of the definition.
+    places_are_one();
+    let found = places_in(alloc, text)?;
+    report_notes(alloc, err, name, &found, text, notes)
 }
 
 /// Prints a text, unless it is empty.
@@ -96,23 +147,57 @@ fn report_made<E: Sink>(err: &mut E, made: Result<Vec<u8>, NoMemory>) -> Result<
     report(err, &line)
 }
 
+/// Returns where the token of a refusal begins in the text that was loaded, if it was loaded.
+fn fault_start(found: &TextPlaces, fault: &FileFault) -> Option<u32>
+    ensures { result ≡ lines.fault_start found.now fault.now }
+{
+    match fault {
+        FileFault::Conflict(_, token, _, _) => {
+            at(found.tokens.as_slice(), *token as usize).copied()
+        }
+        _ => None,
+    }
+}
+
+/// Returns where a refusal is in the text that was loaded.
+fn fault_place(alloc: Global, text: &[u8], fault: &FileFault) -> Result<Option<Place>, NoMemory>
+    ensures { IfOk result (λ place. (found : Found) → ArePlaces text.now found →
+        place ≡ lines.fault_place text.now found fault.now) }
+{
+    match fault {
+        FileFault::Conflict(..) => {
+            // A law: does nothing. The places that are found here are those of the definition.
+            places_are_one();
+            let found = places_in(alloc, text)?;
+            let start = fault_start(&found, fault);
+            Ok(placed(text, start))
+        }
+        _ => Ok(None),
+    }
+}
+
 /// Reports the line of a refused file.
+///
+/// Linear in the line, and, if two edits clash, in the text that was loaded, which is cut once more.
 pub fn refuse<E: Sink>(
     alloc: Global,
     err: &mut E,
     name: &str,
+    text: &[u8],
     fault: &FileFault,
 ) -> Result<(), Stopped>
-    ensures done { OnOk result ((files : Option Files) (stores : ℕ) (out : Option (List ℕ)) →
-        Does (Report (lines.refused_line name.now fault.now) ∷ [])
+    ensures done { OnOk result ((found : Found) → ArePlaces text.now found → (files : Option Files) (stores : ℕ) (out : Option (List ℕ)) →
+        Does (Report (lines.refused_line name.now (lines.fault_place text.now found fault.now) fault.now) ∷ [])
         (observed files stores out (E.written err.old)) (observed files stores out (E.written err.new))) }
     ensures later { E.faults err.old ≤ E.faults err.new }
-    ensures stopped { IfErr result (λ stopped. (files : Option Files) (out : Option (List ℕ)) (stores s o s' o' : ℕ) →
-        Stops (Report (lines.refused_line name.now fault.now) ∷ [])
+    ensures stopped { IfErr result (λ stopped. (found : Found) → ArePlaces text.now found →
+        (files : Option Files) (out : Option (List ℕ)) (stores s o s' o' : ℕ) →
+        Stops (Report (lines.refused_line name.now (lines.fault_place text.now found fault.now) fault.now) ∷ [])
         (counts s o (E.faults err.old)) (counts s' o' (E.faults err.new))
         (observed files stores out (E.written err.old)) (observed files stores out (E.written err.new)) (status_of stopped)) }
 {
-    report_made(err, refused_line(alloc, name, fault))
+    let place = fault_place(alloc, text, fault)?;
+    report_made(err, refused_line(alloc, name, place, fault))
 }
 
 /// Reports the line about a file of this name that is over its limit when it is loaded.

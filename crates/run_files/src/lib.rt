@@ -28,4 +28,6 @@ mod run_stages;
 pub use effects::{refuse_long, refuse_special};
 pub use laws::refusals_say_why;
 pub use process::{process_file, sum};
-pub use run_lines::{forms_line, iso_fault_line, patch_fault_line, refused_words, said};
+pub use run_lines::{
+    forms_line, iso_byte, iso_fault_line, patch_fault_line, placed, refused_words, said,
+};

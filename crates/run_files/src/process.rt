@@ -16,7 +16,6 @@ ghost use Rattle.run_files.specs.Cuts.{TreatsAll, TreatsPart};
 use crate::applies::apply_or_refuse;
 use crate::effects::{report_skipped, show, store_if_changed};
 use crate::run_lines::summary;
-use c_terms::NoMemory;
 use outer_io::{Shelf, Sink};
 use par_match::{Gate, Workers};
 use rule_chain::{Applied, PatchRules};
@@ -27,23 +26,14 @@ use std::alloc::Global;
 use std::thread::Threads;
 use wit_print::print as report_of;
 
-/// Returns a copy of the original bytes, to compare with the text to be stored. Copies nothing when no text is to be stored.
-fn copied(alloc: Global, mode: Mode, bytes: &[u8]) -> Result<Vec<u8>, NoMemory>
-    ensures { IfOk result (λ old. (name : List ℕ) (s : Chained) → stored_after mode name old.items s ≡ stored_after mode name bytes.now s) }
-{
-    if mode.in_place {
-        return Ok(Vec::from_slice(alloc, bytes)?);
-    }
-    Ok(Vec::new(alloc))
-}
-
 /// Applies the patch to the bytes of a file, outputs the result, and returns whether the file is refused.
 ///
 /// The acts are, in this order: a line on the error output for each skipped item, reading by reading; the report or the new
 /// text on the output; and, with `in_place`, a store of the new text if it changed. For a refused file, the only act is the
 /// line of the refusal.
 ///
-/// Costs one [`apply`](rule_chain::apply), the report or the text, and with `in_place` a copy of the bytes. Stops at the first
+/// Costs one [`apply`](rule_chain::apply), the report or the text, and a copy of the bytes. If items are skipped or edits clash, the
+/// bytes are cut into tokens once more, to say where that is. Stops at the first
 /// act that fails, and when out of memory.
 pub fn process_file<R: Threads + Sync, S: Shelf, O: Sink, E: Sink, G: Gate>(
     workers: &Workers<'_, R, G>,
@@ -68,13 +58,13 @@ pub fn process_file<R: Threads + Sync, S: Shelf, O: Sink, E: Sink, G: Gate>(
         (observed (S.holds outside.new.shelf.now) (S.stores outside.new.shelf.now) (O.written outside.new.out.now) (E.written outside.new.err.now)) (status_of stopped)) }
 {
     let alloc = workers.alloc;
-    let old = copied(alloc, mode, &bytes)?;
-    let Some(applied) = apply_or_refuse(workers, rules, name, bytes, outside.err)? else {
+    let text = bytes.as_slice();
+    let Some(applied) = apply_or_refuse(workers, rules, name, text, outside.err)? else {
         return Ok(true);
     };
-    report_skipped(alloc, outside.err, name, applied.skipped.as_slice())?;
+    report_skipped(alloc, outside.err, name, text, applied.skipped.as_slice())?;
     show_file(alloc, rules.patch, mode, name, &applied, outside)?;
-    store_file(alloc, mode, name, &old, &applied.bytes, outside)?;
+    store_file(alloc, mode, name, text, &applied.bytes, outside)?;
     Ok(false)
 }
 
@@ -165,10 +155,11 @@ pub fn sum<R: Threads + Sync, O: Sink, E: Sink, G: Gate>(
         (status_of stopped)) }
 {
     let alloc = workers.alloc;
-    let Some(applied) = apply_or_refuse(workers, rules, name, bytes, err)? else {
+    let text = bytes.as_slice();
+    let Some(applied) = apply_or_refuse(workers, rules, name, text, err)? else {
         return Ok(true);
     };
-    report_skipped(alloc, err, name, applied.skipped.as_slice())?;
+    report_skipped(alloc, err, name, text, applied.skipped.as_slice())?;
     show_summary(alloc, rules.patch, &applied, out, err)?;
     Ok(false)
 }

@@ -20,7 +20,9 @@ use Rattle.iso_file.specs.declared.fault.IsoFault.TheVariants as iso_fault
 use Rattle.iso_file.specs.Isos.{AreIsosOf, IsFileFault}
 use Rattle.iso_file.specs.Isos.IsFileFault.{too_long}
 use Rattle.run_words.specs.Orders.{Target}
-use Rattle.run_files.specs.RunLines.Patches.{patch_fault_line, iso_fault_line}
+use Rattle.smpl_places.specs.FaultPlaces.{FaultAt}
+use Rattle.run_files.specs.RunLines.Further.{placed}
+use Rattle.run_files.specs.RunLines.Patches.{patch_fault_line, iso_fault_line, iso_byte}
 use Rattle.run_files.specs.RunStages.Stages.{Stage, Work, ReadPatch, ReadIsos, EditFiles, Doing, refusing, first_load}
 use Rattle.run_files.specs.RunStages.Stages.{WorkLeads, PatchLeads, IsosFileLeads, ReadLeads, IsosLead}
 use Rattle.run_files.specs.RunStages.Ends.{Ends, LeadsBy}
@@ -74,13 +76,13 @@ module _ (name : List ℕ) (isos : Option (List ℕ)) (defined : List (List ℕ)
   patch_absent under none = rw none refl
 
   pub patch_long : (under : Option (List ℕ)) → IsSomeAnd under (λ bytes. 1048576 < length bytes)
-      → PatchLeads under name isos defined target (refusing (patch_fault_line name patch_fault.PatchTooLong) 2)
+      → PatchLeads under name isos defined target (refusing (patch_fault_line name None patch_fault.PatchTooLong) 2)
   patch_long None long = absurd long
-  patch_long (Some bytes) long = inl (patch_fault.PatchTooLong, (spelling (in_text (text_too_long long)), refl))
+  patch_long (Some bytes) long = inl (patch_fault.PatchTooLong, (spelling (in_text (text_too_long long)), (None, (refl, refl))))
 
-  pub patch_bad : (under : Option (List ℕ)) (bytes : List ℕ) (fault : PatchFault) → under ≡ Some bytes
-      → IsFirstFault bytes fault → PatchLeads under name isos defined target (refusing (patch_fault_line name fault) 2)
-  patch_bad under bytes fault is bad = rw is (inl (fault, (bad, refl)))
+  pub patch_bad : (under : Option (List ℕ)) (bytes : List ℕ) (fault : PatchFault) (at : Option ℕ) → under ≡ Some bytes → IsFirstFault bytes fault
+      → FaultAt bytes fault at → PatchLeads under name isos defined target (refusing (patch_fault_line name (placed bytes at) fault) 2)
+  patch_bad under bytes fault at is bad there = rw is (inl (fault, (bad, (at, (there, refl)))))
 
   pub patch_read : (under : Option (List ℕ)) (bytes : List ℕ) (patch : Patch) → under ≡ Some bytes → IsPatchOf bytes patch
       → (to : Stage) → ReadLeads patch isos defined target to → PatchLeads under name isos defined target to
@@ -93,12 +95,12 @@ module _ (patch : Patch) (name : List ℕ) (defined : List (List ℕ)) (target :
   isos_absent under none = rw none refl
 
   pub isos_long : (under : Option (List ℕ)) → IsSomeAnd under (λ bytes. 1048576 < length bytes)
-      → IsosFileLeads under patch name defined target (refusing (iso_fault_line name iso_fault.TooLong) 3)
+      → IsosFileLeads under patch name defined target (refusing (iso_fault_line name None iso_fault.TooLong) 3)
   isos_long None long = absurd long
   isos_long (Some bytes) long = inl (iso_fault.TooLong, (too_long long, refl))
 
   pub isos_bad : (under : Option (List ℕ)) (bytes : List ℕ) (fault : IsoFault) → under ≡ Some bytes → IsFileFault bytes fault
-      → IsosFileLeads under patch name defined target (refusing (iso_fault_line name fault) 3)
+      → IsosFileLeads under patch name defined target (refusing (iso_fault_line name (placed bytes (iso_byte fault)) fault) 3)
   isos_bad under bytes fault is bad = rw is (inl (fault, (bad, refl)))
 
   pub isos_read : (under : Option (List ℕ)) (bytes : List ℕ) (isos : List Iso) → under ≡ Some bytes → AreIsosOf bytes isos

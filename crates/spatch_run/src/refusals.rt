@@ -18,6 +18,7 @@ use run_files::{forms_line, iso_fault_line, patch_fault_line, refused_words};
 use run_words::WordFault;
 use smpl_patch::PatchFault;
 use std::alloc::Global;
+use text_places::Place;
 
 /// Reports a line and returns a status.
 fn end_by<E: Sink>(err: &mut E, line: &[u8], status: Status) -> Result<Status, Stopped>
@@ -59,37 +60,39 @@ pub fn refuse_absent<E: Sink>(alloc: Global, err: &mut E, name: &str) -> Result<
     end_by(err, &line, Status::CannotRead)
 }
 
-/// Reports the line about the patch of this name with this fault.
+/// Reports the line about the patch of this name with this fault, and what is wrong at its place.
 pub fn refuse_patch<E: Sink>(
     alloc: Global,
     err: &mut E,
     name: &str,
+    place: Option<Place>,
     fault: &PatchFault,
 ) -> Result<Status, Stopped>
     ensures ends { (files : Option Files) (out : Option (List ℕ)) (stores s o : ℕ) →
-        Ends (refusing (lines.patch_fault_line name.now fault.now) 2)
+        Ends (refusing (lines.patch_fault_line name.now place fault.now) 2)
         (counts s o (E.faults err.old)) (counts s o (E.faults err.new))
         (observed files stores out (E.written err.old)) (observed files stores out (E.written err.new))
         (answer result) }
 {
-    let line = patch_fault_line(alloc, name, fault)?;
+    let line = patch_fault_line(alloc, name, place, fault)?;
     end_by(err, &line, Status::PatchRefused)
 }
 
-/// Reports the line about the isomorphisms of this name with this fault.
+/// Reports the line about the isomorphisms of this name with this fault, and what is wrong at its place.
 pub fn refuse_isos<E: Sink>(
     alloc: Global,
     err: &mut E,
     name: &str,
+    place: Option<Place>,
     fault: IsoFault,
 ) -> Result<Status, Stopped>
     ensures ends { (files : Option Files) (out : Option (List ℕ)) (stores s o : ℕ) →
-        Ends (refusing (lines.iso_fault_line name.now fault) 3)
+        Ends (refusing (lines.iso_fault_line name.now place fault) 3)
         (counts s o (E.faults err.old)) (counts s o (E.faults err.new))
         (observed files stores out (E.written err.old)) (observed files stores out (E.written err.new))
         (answer result) }
 {
-    let line = iso_fault_line(alloc, name, fault)?;
+    let line = iso_fault_line(alloc, name, place, fault)?;
     end_by(err, &line, Status::IsosRefused)
 }
 

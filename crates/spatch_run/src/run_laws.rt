@@ -15,9 +15,11 @@ ghost use Rattle.run_files.specs.RunStages.Promise.{EndsRightly};
 ghost use Rattle.run_files.specs.RunStages.Reasons.{Reason};
 ghost use Rattle.run_files.specs.RunStages.Causes.{Causes};
 
+use c_places::places_are_one;
 use read_laws::{isos_are_read_once, patches_are_expanded_once, patches_have_one_fault};
 use rule_chain::chain_has_one_end;
 use smpl_file::patches_are_read_once;
+use smpl_places::faults_have_one_place;
 
 /// A list of words has only one list of acts if the shelf reveals its files: nothing else determines them.
 ///
@@ -38,6 +40,8 @@ pub fn acts_are_one_list()
     isos_are_read_once();
     patches_are_expanded_once();
     chain_has_one_end();
+    faults_have_one_place();
+    places_are_one();
 }
 
 /// The acts of a whole run have a reason, which mentions no stage, and acts that have a reason are those of a whole run.

@@ -34,9 +34,11 @@ use par_match::{Gate, Workers};
 use rule_chain::PatchRules;
 use rule_envs::{Prepared, prepare};
 use run_acts::{Loaded, Outside, Status, Stopped, load};
+use run_files::{iso_byte, placed};
 use run_words::{Order, PatchOrder, Target, order_of, text_fault, utf8_words, word_fault};
 use smpl_file::read_patch;
 use smpl_patch::{Iso, Patch, PatchFault};
+use smpl_places::fault_at;
 use std::alloc::Global;
 use std::thread::Threads;
 
@@ -149,17 +151,20 @@ fn follow_order<R: Threads + Sync, S: Shelf, O: Sink, E: Sink, G: Gate>(
             alloc,
             outside.err,
             order.patch,
+            None,
             &PatchFault::PatchTooLong,
         ),
         Loaded::Absent => return refuse_absent(alloc, outside.err, order.patch),
     };
-    match read_patch(alloc, &bytes) {
+    let text = bytes.as_slice();
+    match read_patch(alloc, text) {
         Ok(patch) => give_forms(host, order, patch, outside),
         Err(fault) => {
             if is_no_memory(&fault) {
                 return Err(Stopped::NoMemory);
             }
-            refuse_patch(alloc, outside.err, order.patch, &fault)
+            let at = fault_at(alloc, text, &fault)?;
+            refuse_patch(alloc, outside.err, order.patch, placed(text, at), &fault)
         }
     }
 }
@@ -217,16 +222,18 @@ fn load_isos<R: Threads + Sync, S: Shelf, O: Sink, E: Sink, G: Gate>(
     let alloc = host.alloc;
     let bytes = match load(alloc, outside.shelf, outside.err, name, PATCH_LIMIT)? {
         Loaded::Bytes(bytes) => bytes,
-        Loaded::TooLong => return refuse_isos(alloc, outside.err, name, IsoFault::TooLong),
+        Loaded::TooLong => return refuse_isos(alloc, outside.err, name, None, IsoFault::TooLong),
         Loaded::Absent => return refuse_absent(alloc, outside.err, name),
     };
-    match read_isos(alloc, &bytes) {
+    let text = bytes.as_slice();
+    match read_isos(alloc, text) {
         Ok(isos) => expand_patch(host, order, patch, name, isos.as_slice(), outside),
         Err(fault) => {
             if is_no_memory_for_isos(fault) {
                 return Err(Stopped::NoMemory);
             }
-            refuse_isos(alloc, outside.err, name, fault)
+            let at = iso_byte(fault);
+            refuse_isos(alloc, outside.err, name, placed(text, at), fault)
         }
     }
 }

@@ -1,11 +1,14 @@
 -- The lines about files.
-use Rattle.std.specs.Prelude.{ℕ, List, [], ◌++◌, codes}
+use Rattle.std.specs.Prelude.{ℕ, ◌==◌, if◌then◌else◌, List, [], ◌++◌, Option, Some, None, slice_get, codes}
 use Rattle.std.specs.Fmt.{decimal}
 use Rattle.cpp_lines.specs.declared.reading.Why.{Why}
 use Rattle.cpp_lines.specs.declared.reading.Why.TheVariants.{NoTree, TooDeep, TooManyNodes}
 use Rattle.rule_chain.specs.declared.rule_run.state.SkipNote.{SkipNote}
 use Rattle.rule_chain.specs.declared.rule_run.fault.FileFault.{FileFault}
 use Rattle.rule_chain.specs.declared.rule_run.fault.FileFault.TheVariants.{FileTooLong, Conflict, TooManyWitnesses, TooManyEnvironments, NoMemory}
+use Rattle.text_places.specs.declared.place.Place.{Place}
+use Rattle.c_places.specs.declared.places.TextPlaces.{TextPlaces}
+use Rattle.run_files.specs.RunLines.Further.{further_at, placed}
 use Rattle.run_files.specs.RunLines.Patches.{line_about}
 
 -- why a file is refused; no file is refused because memory ran out
@@ -16,8 +19,23 @@ fault_text (TooManyWitnesses rule) = codes "too many witnesses in rule " ++ deci
 fault_text (TooManyEnvironments rule) = codes "too many environments after rule " ++ decimal rule
 fault_text NoMemory = []
 
-abbrev pub refused_line : List ℕ → FileFault → List ℕ
-refused_line name fault = line_about name (codes "refused: " ++ fault_text fault)
+-- what is at the place of a refusal
+abbrev pub fault_there : FileFault → List ℕ
+fault_there (Conflict rule token first second) = codes "conflict in rule " ++ decimal rule
+fault_there fault = fault_text fault
+
+-- Where a refusal is in the text that was loaded, by where its tokens begin: a conflict is at its token, if that was loaded.
+-- Ids of loaded tokens count from 0, and those of added ones are greater.
+abbrev pub fault_start : TextPlaces → FileFault → Option ℕ
+fault_start places (Conflict rule token first second) = slice_get places.tokens token
+fault_start places fault = None
+
+abbrev pub fault_place : List ℕ → TextPlaces → FileFault → Option Place
+fault_place text places fault = placed text (fault_start places fault)
+
+-- the line about a refused file, and what is at this place
+abbrev pub refused_line : List ℕ → Option Place → FileFault → List ℕ
+refused_line name place fault = line_about name (codes "refused: " ++ fault_text fault) ++ further_at name place (fault_there fault)
 
 -- the line about a file that is over its limit when it is loaded
 abbrev pub too_long_line : List ℕ → List ℕ
@@ -32,7 +50,15 @@ why_text NoTree = codes "no tree"
 why_text TooDeep = codes "too deep"
 why_text TooManyNodes = codes "too many nodes"
 
--- the line about an item that a reading skipped
-abbrev pub skipped_line : List ℕ → SkipNote → List ℕ
-skipped_line name note = line_about name
+-- where an item that a reading skipped begins in the text that was loaded, if that is the text of the reading
+abbrev pub note_start : TextPlaces → SkipNote → Option ℕ
+note_start places note = if note.reading == 0 then slice_get places.items note.item else None
+
+abbrev pub note_place : List ℕ → TextPlaces → SkipNote → Option Place
+note_place text places note = placed text (note_start places note)
+
+-- the line about an item that a reading skipped, and why it did at this place
+abbrev pub skipped_line : List ℕ → Option Place → SkipNote → List ℕ
+skipped_line name place note = line_about name
     (codes "reading " ++ decimal note.reading ++ codes ": item " ++ decimal note.item ++ codes " not read: " ++ why_text note.why)
+    ++ further_at name place (why_text note.why)

@@ -16,7 +16,9 @@ use Rattle.run_words.specs.declared.order.Saying.{Saying}
 use Rattle.run_words.specs.Orders.{Target, OnFiles, OnText, Apply, Generate, Say, order_of}
 use Rattle.run_words.specs.Faults.{word_fault}
 use Rattle.run_files.specs.RunLines.Words.{refused_words, said}
-use Rattle.run_files.specs.RunLines.Patches.{patch_fault_line, iso_fault_line, forms_line}
+use Rattle.run_files.specs.RunLines.Patches.{patch_fault_line, iso_fault_line, forms_line, iso_byte}
+use Rattle.smpl_places.specs.FaultPlaces.{FaultAt}
+use Rattle.run_files.specs.RunLines.Further.{placed}
 use Rattle.run_files.specs.Treatment.{Treated, file_limit, IsFileTreatmentOf, Sums}
 use Rattle.run_files.specs.RunStages.Stages.{patch_limit, generated_name, end_status}
 
@@ -89,9 +91,9 @@ pub data Reason (words : List (List ℕ)) (old : Observed) (acts : List Act) (st
       → PatchFound words old name None isos defined target → acts ≡ Load name patch_limit ∷ Report (cannot_read name) ∷ []
       → status ≡ 5 → Reason words old acts status
   -- 2: the patch has a fault, and this is the first
-  bad_patch : (name bytes : List ℕ) (isos : Option (List ℕ)) (defined : List (List ℕ)) (target : Target) (fault : PatchFault)
-      → PatchFound words old name (Some bytes) isos defined target → IsFirstFault bytes fault
-      → acts ≡ Load name patch_limit ∷ Report (patch_fault_line name fault) ∷ [] → status ≡ 2 → Reason words old acts status
+  bad_patch : (name bytes : List ℕ) (isos : Option (List ℕ)) (defined : List (List ℕ)) (target : Target) (fault : PatchFault) (at : Option ℕ)
+      → PatchFound words old name (Some bytes) isos defined target → IsFirstFault bytes fault → FaultAt bytes fault at
+      → acts ≡ Load name patch_limit ∷ Report (patch_fault_line name (placed bytes at) fault) ∷ [] → status ≡ 2 → Reason words old acts status
   -- 5: nothing is stored under the isomorphisms' name
   no_isos : (patch : Patch) (name : List ℕ) (defined : List (List ℕ)) (target : Target) (before : List Act)
       → IsosFound words old patch name None defined target before → acts ≡ before ++ Report (cannot_read name) ∷ []
@@ -99,7 +101,7 @@ pub data Reason (words : List (List ℕ)) (old : Observed) (acts : List Act) (st
   -- 3: the isomorphisms have a fault, and this is the first
   bad_isos : (patch : Patch) (name bytes : List ℕ) (defined : List (List ℕ)) (target : Target) (fault : IsoFault) (before : List Act)
       → IsosFound words old patch name (Some bytes) defined target before → IsFileFault bytes fault
-      → acts ≡ before ++ Report (iso_fault_line name fault) ∷ [] → status ≡ 3 → Reason words old acts status
+      → acts ≡ before ++ Report (iso_fault_line name (placed bytes (iso_byte fault)) fault) ∷ [] → status ≡ 3 → Reason words old acts status
   -- 3: some rule has too many forms under the isomorphisms, and this is the first
   many_forms : (patch : Patch) (name bytes : List ℕ) (defined : List (List ℕ)) (target : Target) (isos : List Iso) (rule : ℕ) (before : List Act)
       → IsosFound words old patch name (Some bytes) defined target before → AreIsosOf bytes isos → IsFirstMany isos patch.rules rule

@@ -17,7 +17,9 @@ use Rattle.run_words.specs.declared.fault.WordFault.{WordFault}
 use Rattle.run_words.specs.Orders.{Target, OnFiles, OnText, Order, Apply, Generate, Say, order_of}
 use Rattle.run_words.specs.Faults.{word_fault}
 use Rattle.run_files.specs.RunLines.Words.{refused_words, said}
-use Rattle.run_files.specs.RunLines.Patches.{patch_fault_line, iso_fault_line, forms_line}
+use Rattle.run_files.specs.RunLines.Patches.{patch_fault_line, iso_fault_line, forms_line, iso_byte}
+use Rattle.smpl_places.specs.FaultPlaces.{FaultAt}
+use Rattle.run_files.specs.RunLines.Further.{placed}
 use Rattle.run_files.specs.Treatment.{Treated, file_limit, IsFileTreatmentOf, Sums}
 
 -- the maximum number of bytes of a patch, and of isomorphisms
@@ -86,7 +88,8 @@ ReadLeads patch (Some name) defined target to = to ≡ Doing [] (ReadIsos patch 
 abbrev pub PatchLeads : Option (List ℕ) → List ℕ → Option (List ℕ) → List (List ℕ) → Target → Stage → Type 0
 PatchLeads None name isos defined target to = to ≡ refusing (cannot_read name) 5
 PatchLeads (Some bytes) name isos defined target to =
-    ((fault : PatchFault) × (IsFirstFault bytes fault × (to ≡ refusing (patch_fault_line name fault) 2)))
+    ((fault : PatchFault) × (IsFirstFault bytes fault × ((at : Option ℕ) × (FaultAt bytes fault at
+    × (to ≡ refusing (patch_fault_line name (placed bytes at) fault) 2)))))
     ⊎ ((patch : Patch) × (IsPatchOf bytes patch × ReadLeads patch isos defined target to))
 
 -- what isomorphisms lead to: a rule has too many forms under them, or the patch gets its forms
@@ -99,7 +102,7 @@ IsosLead isos patch name defined target to =
 abbrev pub IsosFileLeads : Option (List ℕ) → Patch → List ℕ → List (List ℕ) → Target → Stage → Type 0
 IsosFileLeads None patch name defined target to = to ≡ refusing (cannot_read name) 5
 IsosFileLeads (Some bytes) patch name defined target to =
-    ((fault : IsoFault) × (IsFileFault bytes fault × (to ≡ refusing (iso_fault_line name fault) 3)))
+    ((fault : IsoFault) × (IsFileFault bytes fault × (to ≡ refusing (iso_fault_line name (placed bytes (iso_byte fault)) fault) 3)))
     ⊎ ((isos : List Iso) × (AreIsosOf bytes isos × IsosLead isos patch name defined target to))
 
 -- what a file leads to: the acts that result from it, and then the remaining files

@@ -2,11 +2,13 @@
 ghost use Rattle.std.specs.Prelude.{◌≡◌, ◌++◌, IfOk, OnOk};
 ghost use Rattle.run_files.specs.RunLines.Files as spec;
 
+use crate::run_lines::further::put_further_at;
 use crate::run_lines::patches::line_about;
 use c_terms::NoMemory;
 use cpp_lines::Why;
 use rule_chain::{FileFault, SkipNote};
 use std::alloc::Global;
+use text_places::Place;
 use wit_print::TextBuffer;
 
 /// Appends why a file is refused. Appends nothing for `NoMemory`: no file is refused because memory ran out.
@@ -31,16 +33,45 @@ fn put_fault(line: &mut TextBuffer, fault: &FileFault) -> Result<(), NoMemory>
     }
 }
 
-/// Returns the line `spatch: NAME: refused: FAULT` for a file of this name that is refused because of this fault.
+/// Appends what is at the place of a refusal.
+fn put_there(text: &mut TextBuffer, fault: &FileFault) -> Result<(), NoMemory>
+    ensures { OnOk result (text.new ≡ text.old ++ spec.fault_there fault.now) }
+{
+    match fault {
+        FileFault::Conflict(rule, _, _, _) => {
+            text.put_numbered(b"conflict in rule ", u64::from(*rule))
+        }
+        _ => put_fault(text, fault),
+    }
+}
+
+/// Returns what is at the place of a refusal.
+fn there(alloc: Global, fault: &FileFault) -> Result<Vec<u8>, NoMemory>
+    ensures { IfOk result (λ text. text.items ≡ spec.fault_there fault.now) }
+{
+    let mut text = TextBuffer::new(alloc);
+    put_there(&mut text, fault)?;
+    Ok(text.finish())
+}
+
+/// Returns the line `spatch: NAME: refused: FAULT` for a file of this name that is refused because of this fault. If the fault
+/// has a place in the file, the further line `  NAME:LINE:COLUMN: FAULT` follows.
 ///
 /// Linear in the name. Fails only when out of memory. The format is the project's own.
-pub fn refused_line(alloc: Global, name: &str, fault: &FileFault) -> Result<Vec<u8>, NoMemory>
-    ensures bytes { IfOk result (λ line. line.items ≡ spec.refused_line name.now fault.now) }
+pub fn refused_line(
+    alloc: Global,
+    name: &str,
+    place: Option<Place>,
+    fault: &FileFault,
+) -> Result<Vec<u8>, NoMemory>
+    ensures bytes { IfOk result (λ line. line.items ≡ spec.refused_line name.now place fault.now) }
 {
+    let what = there(alloc, fault)?;
     let mut line = line_about(alloc, name)?;
     line.put(b"refused: ")?;
     put_fault(&mut line, fault)?;
     line.put(b"\n")?;
+    put_further_at(&mut line, name, place, &what)?;
     Ok(line.finish())
 }
 
@@ -79,11 +110,16 @@ fn why_text(why: Why) -> &'static [u8]
 }
 
 /// Returns the line `spatch: NAME: reading R: item N not read: WHY` for an item that a reading of the file of this name
-/// skipped.
+/// skipped. If the item has a place in the file, the further line `  NAME:LINE:COLUMN: WHY` follows.
 ///
 /// Linear in the name. Fails only when out of memory. The format is the project's own.
-pub fn skipped_line(alloc: Global, name: &str, note: &SkipNote) -> Result<Vec<u8>, NoMemory>
-    ensures bytes { IfOk result (λ line. line.items ≡ spec.skipped_line name.now note.now) }
+pub fn skipped_line(
+    alloc: Global,
+    name: &str,
+    place: Option<Place>,
+    note: &SkipNote,
+) -> Result<Vec<u8>, NoMemory>
+    ensures bytes { IfOk result (λ line. line.items ≡ spec.skipped_line name.now place note.now) }
 {
     let mut line = line_about(alloc, name)?;
     line.put_numbered(b"reading ", u64::from(note.reading))?;
@@ -91,5 +127,6 @@ pub fn skipped_line(alloc: Global, name: &str, note: &SkipNote) -> Result<Vec<u8
     line.put(b" not read: ")?;
     line.put(why_text(note.why))?;
     line.put(b"\n")?;
+    put_further_at(&mut line, name, place, why_text(note.why))?;
     Ok(line.finish())
 }

@@ -2,11 +2,13 @@
 ghost use Rattle.std.specs.Prelude.{◌≡◌, ◌++◌, IfOk, OnOk};
 ghost use Rattle.run_files.specs.RunLines.Patches as spec;
 
+use crate::run_lines::further::put_further_at;
 use c_terms::NoMemory;
 use iso_file::IsoFault;
 use outer_io::escaped_name;
 use smpl_patch::{PatchFault, fault_number, fault_place};
 use std::alloc::Global;
+use text_places::Place;
 use wit_print::TextBuffer;
 
 /// Returns the start of a line about the given name: everything before the line's text.
@@ -41,17 +43,85 @@ fn put_variable(line: &mut TextBuffer, name: &[u8]) -> Result<(), NoMemory>
     line.put(name)
 }
 
-/// Returns the line `spatch: NAME: patch fault N PLACE` for a patch of this name with this fault. The place is ` at` and a
-/// byte, ` in rule` and a number, ` of` and a variable, or nothing.
-///
-/// Linear in the name and the variable. Fails only when out of memory. The format is the project's own.
-pub fn patch_fault_line(alloc: Global, name: &str, fault: &PatchFault) -> Result<Vec<u8>, NoMemory>
-    ensures bytes { IfOk result (λ line. line.items ≡ spec.patch_fault_line name.now fault.now) }
+/// Returns what is wrong with a patch that has this fault, if the sentence names no variable.
+fn plain_sentence(fault: &PatchFault) -> &'static [u8]
+    ensures { result.now ≡ spec.plain_sentence fault.now }
 {
+    match fault {
+        PatchFault::PatchTooLong => b"more than 1048576 bytes",
+        PatchFault::BadToken(_) => b"no token of a patch",
+        PatchFault::BadHeader(_) => b"the header can't go on here",
+        PatchFault::BadMetavariable(_) => b"no declaration of a metavariable",
+        PatchFault::TwiceNamed(_) => b"a name that is taken; choose another",
+        PatchFault::UnknownRule(_) => {
+            b"no earlier rule, virtual name or metavariable of that rule; declare it first"
+        }
+        PatchFault::KindDiffers(_) => {
+            b"another kind than the earlier rule gives it; write that kind"
+        }
+        PatchFault::BadPattern(_) => b"neither an expression, nor statements, nor one function",
+        PatchFault::StarWithEdit(_) => b"lines with * beside lines with - or +",
+        PatchFault::PlusWithoutAnchor(_) => {
+            b"added lines that stand beside no token of the rule; put them beside a statement"
+        }
+        PatchFault::DotsAtEdge(_) => b"dots at the edge of code; leave them out",
+        PatchFault::MinusDots(_) => {
+            b"dots on a line with -; put the - on what stands beside them"
+        }
+        PatchFault::MayStayUnbound(_) => {
+            b" may stay without a value; let each branch have it, or write the branches as statements, one a line"
+        }
+        PatchFault::UnboundInPlus(_) => b" gets no value; let the code find it, or inherit it",
+        PatchFault::ScriptRule(_) => b"scripts aren't taken; --witnesses prints what is found",
+        PatchFault::TooDeep(_) => b"more than 200 brackets open",
+        PatchFault::TooLarge(_) => {
+            b"too large: too many dots or branches in a row; split the rule, or write exists"
+        }
+        PatchFault::NoMemory => b"",
+    }
+}
+
+/// Returns the name of the variable of the fault, or nothing.
+fn variable_in(fault: &PatchFault) -> &[u8]
+    ensures { result.now ≡ spec.variable_in fault.now }
+{
+    match fault {
+        PatchFault::MayStayUnbound(x) => x.name.as_bytes(),
+        PatchFault::UnboundInPlus(x) => x.name.as_bytes(),
+        _ => b"",
+    }
+}
+
+/// Returns what is wrong with a patch that has this fault.
+fn sentence(alloc: Global, fault: &PatchFault) -> Result<Vec<u8>, NoMemory>
+    ensures { IfOk result (λ text. text.items ≡ spec.fault_sentence fault.now) }
+{
+    let mut text = TextBuffer::new(alloc);
+    text.put(variable_in(fault))?;
+    text.put(plain_sentence(fault))?;
+    Ok(text.finish())
+}
+
+/// Returns the line `spatch: NAME: patch fault N PLACE` for a patch of this name with this fault. The place is ` at` and a
+/// byte, ` in rule` and a number, ` of` and a variable, or nothing. If the fault has a place in the patch, the further line
+/// `  NAME:LINE:COLUMN: SENTENCE` follows, which says what is wrong there.
+///
+/// Linear in the name and the variable. Fails only when out of memory. The format is the project's own, and that of the further
+/// line is the one of the GNU standards.
+pub fn patch_fault_line(
+    alloc: Global,
+    name: &str,
+    place: Option<Place>,
+    fault: &PatchFault,
+) -> Result<Vec<u8>, NoMemory>
+    ensures bytes { IfOk result (λ line. line.items ≡ spec.patch_fault_line name.now place fault.now) }
+{
+    let what = sentence(alloc, fault)?;
     let mut line = line_about(alloc, name)?;
     line.put_numbered(b"patch fault ", u64::from(fault_number(fault)))?;
     put_place(&mut line, fault)?;
     line.put(b"\n")?;
+    put_further_at(&mut line, name, place, &what)?;
     Ok(line.finish())
 }
 
@@ -69,17 +139,51 @@ fn put_iso_fault(line: &mut TextBuffer, fault: IsoFault) -> Result<(), NoMemory>
     }
 }
 
-/// Returns the line `spatch: NAME: isomorphism fault N at BYTE` for isomorphisms of this name with this fault. The fault of a
-/// file that is too long has no place.
+/// Returns what is wrong with isomorphisms that have this fault.
+fn iso_sentence(fault: IsoFault) -> &'static [u8]
+    ensures { result.now ≡ spec.iso_sentence fault }
+{
+    match fault {
+        IsoFault::BadIso(_) => b"no isomorphism",
+        IsoFault::NotExpression(_) => b"another kind than Expression; leave the block out",
+        IsoFault::VariableLost(_) => {
+            b"a variable that the other side lacks; turn the arrow around"
+        }
+        IsoFault::TooLong => b"more than 1048576 bytes",
+        IsoFault::NoMemory => b"",
+    }
+}
+
+/// Returns the offset of the byte at which a fault in isomorphisms is, if it has one.
+pub fn iso_byte(fault: IsoFault) -> Option<u32>
+    ensures { result ≡ spec.iso_byte fault }
+{
+    match fault {
+        IsoFault::BadIso(at) => Some(at),
+        IsoFault::NotExpression(at) => Some(at),
+        IsoFault::VariableLost(at) => Some(at),
+        IsoFault::TooLong => None,
+        IsoFault::NoMemory => None,
+    }
+}
+
+/// Returns the line `spatch: NAME: isomorphism fault N at BYTE` for isomorphisms of this name with this fault, followed by the
+/// further line about its place. The fault of a file that is too long has no place.
 ///
 /// Linear in the name. Fails only when out of memory. The format is the project's own.
-pub fn iso_fault_line(alloc: Global, name: &str, fault: IsoFault) -> Result<Vec<u8>, NoMemory>
-    ensures bytes { IfOk result (λ line. line.items ≡ spec.iso_fault_line name.now fault) }
+pub fn iso_fault_line(
+    alloc: Global,
+    name: &str,
+    place: Option<Place>,
+    fault: IsoFault,
+) -> Result<Vec<u8>, NoMemory>
+    ensures bytes { IfOk result (λ line. line.items ≡ spec.iso_fault_line name.now place fault) }
 {
     let mut line = line_about(alloc, name)?;
     line.put(b"isomorphism fault ")?;
     put_iso_fault(&mut line, fault)?;
     line.put(b"\n")?;
+    put_further_at(&mut line, name, place, iso_sentence(fault))?;
     Ok(line.finish())
 }
 

@@ -13,6 +13,7 @@ use Rattle.run_acts.specs.Loaded.{Found}
 use Rattle.run_files.specs.RunLines.Files.{too_long_line}
 use Rattle.run_words.specs.declared.order.Mode.{Mode}
 use Rattle.run_files.specs.Treatment.{Treated, file_limit, IsTreatmentOf, IsFileTreatmentOf, treated_by, refuses}
+use Rattle.run_files.proofs.TreatLemmas.{chain_places}
 use Rattle.run_files.specs.RunStages.Reasons.{FilesEnd, AllDone, Missing, FilesDo}
 use Rattle.text_laws.specs.ChainTotal.Weakly.{Weakly}
 use Rattle.spatch_run.specs.RunEnds.Fates.{AllThere, NoneRefused, SomeRefused}
@@ -59,7 +60,9 @@ module _ (patch : Patch) (defined : List (List ℕ)) (mode : Mode) where
     treats_some : (name bytes : List ℕ) → Weakly ((treated : Treated) × IsTreatmentOf mode patch defined name bytes treated)
     treats_some name bytes = λ absent. elim (order (length bytes) file_limit) [
       | inr long ↦ absent (refuses (too_long_line name), inl (long, refl))
-      | inl short ↦ ends bytes (λ e. absent (treated_by mode patch name bytes e.0, inr (short, (e.0, (e.1, refl)))))
+      | inl short ↦ ends bytes (λ e.
+          let places = chain_places patch.rules defined bytes e.0 e.1 in
+          absent (treated_by mode patch name bytes places.0 e.0, inr (short, (e.0, (e.1, (places.0, (places.1, refl)))))))
     ]
 
     pub files_do : (old : Observed) (names : List (List ℕ)) (refused : Bool) → Weakly ((acts : List Act) × ((end : FilesEnd) × Does old names refused acts end))

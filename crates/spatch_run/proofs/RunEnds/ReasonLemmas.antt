@@ -13,11 +13,14 @@ use Rattle.run_acts.specs.Acts.{Act, Load, Print, Report, Observed}
 use Rattle.run_acts.specs.Lines.{cannot_read}
 use Rattle.run_acts.specs.Loaded.{Found}
 use Rattle.run_files.specs.RunLines.Words.{refused_words, said}
-use Rattle.run_files.specs.RunLines.Patches.{patch_fault_line, iso_fault_line, forms_line}
+use Rattle.run_files.specs.RunLines.Patches.{patch_fault_line, iso_fault_line, forms_line, iso_byte}
 use Rattle.run_words.specs.Orders.{Target, OnFiles, OnText, Order, Apply, Generate, Say, order_of}
 use Rattle.run_words.specs.Faults.{word_fault}
+use Rattle.smpl_places.specs.FaultPlaces.{FaultAt}
+use Rattle.run_files.specs.RunLines.Further.{placed}
 use Rattle.run_files.specs.Treatment.{Treated, summed_by}
 use Rattle.run_files.specs.RunStages.Stages.{patch_limit, generated_name, end_status}
+use Rattle.run_files.proofs.TreatLemmas.{chain_places}
 use Rattle.run_files.specs.RunStages.Reasons.{PatchFound, PatchRead, IsosFound, PatchReady, Reason, files_status}
 use Rattle.run_files.specs.RunStages.Reasons.PatchReady.{plain, expanded}
 use Rattle.run_files.specs.RunStages.Reasons.Reason.{unasked, is_said, is_generated, no_patch, bad_patch, no_isos, bad_isos, many_forms, summed, filed}
@@ -26,6 +29,9 @@ use Rattle.spatch_run.proofs.RunEnds.FileLemmas.{HaveEnds, found_some, files_do}
 
 abbrev pub PatchLaw : Type 0
 PatchLaw = (bytes : List ℕ) → ((patch : Patch) → IsPatchOf bytes patch → ⊥) → ((fault : PatchFault) → IsFirstFault bytes fault → ⊥) → ⊥
+
+abbrev pub PlaceLaw : Type 0
+PlaceLaw = (bytes : List ℕ) (fault : PatchFault) → ((at : Option ℕ) → FaultAt bytes fault at → ⊥) → ⊥
 
 abbrev pub IsosLaw : Type 0
 IsosLaw = (bytes : List ℕ) → ((isos : List Iso) → AreIsosOf bytes isos → ⊥) → ((fault : IsoFault) → IsFileFault bytes fault → ⊥) → ⊥
@@ -48,7 +54,8 @@ ready_ends read forms words old patch defined target acts (plain r) = λ text. r
 ready_ends read forms words old patch defined target acts (expanded first name bytes isos found are is) =
     λ text. forms found.read.bytes isos first patch defined text found.read.is.spelled is
 
-module _ (patch_law : PatchLaw) (isos_law : IsosLaw) (forms_law : FormsLaw) (read_law : ReadLaw) (expanded_law : ExpandedLaw) (words : List (List ℕ))
+module _ (patch_law : PatchLaw) (place_law : PlaceLaw) (isos_law : IsosLaw) (forms_law : FormsLaw) (read_law : ReadLaw)
+    (expanded_law : ExpandedLaw) (words : List (List ℕ))
     (old : Observed) (absent : ((acts : List Act) × ((status : ℕ) × Reason words old acts status)) → ⊥) where
   -- the patch has all its forms
   target_by : (patch : Patch) (defined : List (List ℕ)) (target : Target) (before : List Act) → PatchReady words old patch defined target before → ⊥
@@ -58,10 +65,11 @@ module _ (patch_law : PatchLaw) (isos_law : IsosLaw) (forms_law : FormsLaw) (rea
   target_by patch defined (OnText seed functions) before ready =
       ready_ends read_law expanded_law words old patch defined (OnText seed functions) before ready (generated seed functions)
       (λ e.
-      let treated : Treated = summed_by patch generated_name e.0 in
+      let places = chain_places patch.rules defined (generated seed functions) e.0 e.1 in
+      let treated : Treated = summed_by patch generated_name (generated seed functions) places.0 e.0 in
       absent (
         before ++ treated.acts,
-        (end_status treated.refused, summed patch defined seed functions treated before ready (e.0, (e.1, refl)) refl refl),
+        (end_status treated.refused, summed patch defined seed functions treated before ready (e.0, (e.1, (places.0, (places.1, refl)))) refl refl),
       ))
 
   isos_by : (patch : Patch) (name : List ℕ) (defined : List (List ℕ)) (target : Target) (before : List Act)
@@ -86,7 +94,7 @@ module _ (patch_law : PatchLaw) (isos_law : IsosLaw) (forms_law : FormsLaw) (rea
       ])
       (λ fault wrong.
       absent (
-        loaded ++ Report (iso_fault_line name fault) ∷ [],
+        loaded ++ Report (iso_fault_line name (placed bytes (iso_byte fault)) fault) ∷ [],
         (3, bad_isos patch name bytes defined target fault loaded is wrong refl refl),
       ))
 
@@ -108,11 +116,11 @@ module _ (patch_law : PatchLaw) (isos_law : IsosLaw) (forms_law : FormsLaw) (rea
       patch_law bytes
       (λ patch read. read_by patch isos defined target (Load name patch_limit ∷ [])
       (record { name = name; bytes = bytes; found = is; is = read; acts_are = refl }))
-      (λ fault wrong.
+      (λ fault wrong. place_law bytes fault (λ at there.
       absent (
-        Load name patch_limit ∷ Report (patch_fault_line name fault) ∷ [],
-        (2, bad_patch name bytes isos defined target fault is wrong refl refl),
-      ))
+        Load name patch_limit ∷ Report (patch_fault_line name (placed bytes at) fault) ∷ [],
+        (2, bad_patch name bytes isos defined target fault at is wrong there refl refl),
+      )))
 
   order_by : (o : Option Order) → order_of words ≡ o → ⊥
   order_by None e = absent (Report (refused_words (word_fault words)) ∷ [], (1, unasked e refl refl))

@@ -16,8 +16,12 @@ use Rattle.iso_expand.specs.Patches.{IsExpanded, IsFirstMany}
 use Rattle.rule_chain.specs.Chain.{Chain, Outcome}
 use Rattle.sp_gen.specs.Generated.{generated}
 use Rattle.run_words.specs.declared.order.Mode.{Mode}
-use Rattle.run_words.specs.Orders.{Target, OnFiles, OnText}
-use Rattle.run_files.specs.RunLines.Patches.{patch_fault_line, iso_fault_line, forms_line}
+use Rattle.run_words.specs.Orders.{Target, OnFiles, OnText, order_of}
+use Rattle.run_files.specs.RunLines.Patches.{patch_fault_line, iso_fault_line, forms_line, iso_byte}
+use Rattle.c_places.specs.declared.places.TextPlaces.{TextPlaces}
+use Rattle.c_places.specs.Starts.{ArePlaces}
+use Rattle.smpl_places.specs.FaultPlaces.{FaultAt}
+use Rattle.run_files.specs.RunLines.Further.{placed}
 use Rattle.run_files.specs.Treatment.{Treated, file_limit, IsTreatmentOf, IsFileTreatmentOf, Sums, treated_by, summed_by}
 use Rattle.run_files.specs.RunStages.Stages.{Stage, Doing, Ending, ReadPatch, ReadIsos, EditFiles, generated_name, refusing}
 use Rattle.run_files.specs.RunStages.Stages.{going, end_status, begun_by, TargetLeads, ReadLeads, PatchLeads, IsosLead}
@@ -30,7 +34,8 @@ none_some a e = cc
 pub same_some : {A : Type 0} (a b : A) → Some a ≡ Some b → a ≡ b
 same_some a b e = cc
 
--- Reading has only one result, a patch gets its forms in only one way, and the rules over a text have only one outcome.
+-- Reading has only one result, a fault one place, a text its tokens and items at one list of places; a patch gets its forms in
+-- only one way, and the rules over a text have only one outcome.
 pub record ReadOnce : Type 0 where
   pub patch : (bytes : List ℕ) (one other : Patch) → IsPatchOf bytes one → IsPatchOf bytes other → one ≡ other
   pub patch_fault : (bytes : List ℕ) (one other : PatchFault) → IsFirstFault bytes one → IsFirstFault bytes other → one ≡ other
@@ -41,6 +46,8 @@ pub record ReadOnce : Type 0 where
   pub whole : (isos : List Iso) (patch one other : Patch) → IsExpanded isos patch one → IsExpanded isos patch other → one ≡ other
   pub rule : (isos : List Iso) (rules : List Rule) (one other : ℕ) → IsFirstMany isos rules one → IsFirstMany isos rules other → one ≡ other
   pub whole_apart : (isos : List Iso) (patch whole : Patch) (rule : ℕ) → IsExpanded isos patch whole → IsFirstMany isos patch.rules rule → ⊥
+  pub patch_place : (bytes : List ℕ) (fault : PatchFault) (one other : Option ℕ) → FaultAt bytes fault one → FaultAt bytes fault other → one ≡ other
+  pub places : (bytes : List ℕ) (one other : TextPlaces) → ArePlaces bytes one → ArePlaces bytes other → one ≡ other
   pub chain : (rules : List Rule) (defined : List (List ℕ)) (bytes : List ℕ) (end other : Outcome) → Chain rules defined bytes end
       → Chain rules defined bytes other → end ≡ other
 
@@ -64,7 +71,9 @@ module _ (laws : ReadOnce) where
   IsTreatmentOf-one mode patch defined name bytes a b (inl one) (inr two) = absurd (not-both (length bytes) one.0 two.0)
   IsTreatmentOf-one mode patch defined name bytes a b (inr one) (inl two) = absurd (not-both (length bytes) two.0 one.0)
   IsTreatmentOf-one mode patch defined name bytes a b (inr one) (inr two) =
-      one.1.1.1 ∙ ap (treated_by mode patch name bytes) (laws.chain patch.rules defined bytes one.1.0 two.1.0 one.1.1.0 two.1.1.0) ∙ sym two.1.1.1
+      let end = laws.chain patch.rules defined bytes one.1.0 two.1.0 one.1.1.0 two.1.1.0 in
+      let places = laws.places bytes one.1.1.1.0 two.1.1.1.0 one.1.1.1.1.0 two.1.1.1.1.0 in
+      one.1.1.1.1.1 ∙ (λ i. treated_by mode patch name bytes (places i) (end i)) ∙ sym two.1.1.1.1.1
 
   IsFileTreatmentOf-one : (holds : Option Files) → IsSome holds → (mode : Mode) (patch : Patch) (defined : List (List ℕ)) (name bytes : List ℕ) (a b : Treated)
       → IsFileTreatmentOf holds mode patch defined name bytes a → IsFileTreatmentOf holds mode patch defined name bytes b → a ≡ b
@@ -75,7 +84,9 @@ module _ (laws : ReadOnce) where
   Sums-one : (patch : Patch) (defined : List (List ℕ)) (name bytes : List ℕ) (a b : Treated) → Sums patch defined name bytes a
       → Sums patch defined name bytes b → a ≡ b
   Sums-one patch defined name bytes a b one two =
-      one.1.1 ∙ ap (summed_by patch name) (laws.chain patch.rules defined bytes one.0 two.0 one.1.0 two.1.0) ∙ sym two.1.1
+      let end = laws.chain patch.rules defined bytes one.0 two.0 one.1.0 two.1.0 in
+      let places = laws.places bytes one.1.1.0 two.1.1.0 one.1.1.1.0 two.1.1.1.0 in
+      one.1.1.1.1 ∙ (λ i. summed_by patch name bytes (places i) (end i)) ∙ sym two.1.1.1.1
 
   TargetLeads-one : (patch : Patch) (defined : List (List ℕ)) (target : Target) (a b : Stage) → TargetLeads patch defined target a
       → TargetLeads patch defined target b → a ≡ b
@@ -93,7 +104,10 @@ module _ (laws : ReadOnce) where
       → PatchLeads under name isos defined target a → PatchLeads under name isos defined target b → a ≡ b
   PatchLeads-one None name isos defined target a b one two = one ∙ sym two
   PatchLeads-one (Some bytes) name isos defined target a b (inl one) (inl two) =
-      one.1.1 ∙ ap (λ (f : PatchFault). refusing (patch_fault_line name f) 2) (laws.patch_fault bytes one.0 two.0 one.1.0 two.1.0) ∙ sym two.1.1
+      let fault = laws.patch_fault bytes one.0 two.0 one.1.0 two.1.0 in
+      let there = subst (λ (f : PatchFault). FaultAt bytes f one.1.1.0) fault one.1.1.1.0 in
+      let at = laws.patch_place bytes two.0 one.1.1.0 two.1.1.0 there two.1.1.1.0 in
+      one.1.1.1.1 ∙ (λ i. refusing (patch_fault_line name (placed bytes (at i)) (fault i)) 2) ∙ sym two.1.1.1.1
   PatchLeads-one (Some bytes) name isos defined target a b (inl one) (inr two) = absurd (laws.patch_apart bytes two.0 one.0 two.1.0 one.1.0)
   PatchLeads-one (Some bytes) name isos defined target a b (inr one) (inl two) = absurd (laws.patch_apart bytes one.0 two.0 one.1.0 two.1.0)
   PatchLeads-one (Some bytes) name isos defined target a b (inr one) (inr two) =
@@ -114,7 +128,8 @@ module _ (laws : ReadOnce) where
       → IsosFileLeads under patch name defined target a → IsosFileLeads under patch name defined target b → a ≡ b
   IsosFileLeads-one None patch name defined target a b one two = one ∙ sym two
   IsosFileLeads-one (Some bytes) patch name defined target a b (inl one) (inl two) =
-      one.1.1 ∙ ap (λ (f : IsoFault). refusing (iso_fault_line name f) 3) (laws.isos_fault bytes one.0 two.0 one.1.0 two.1.0) ∙ sym two.1.1
+      one.1.1 ∙ ap (λ (f : IsoFault). refusing (iso_fault_line name (placed bytes (iso_byte f)) f) 3)
+      (laws.isos_fault bytes one.0 two.0 one.1.0 two.1.0) ∙ sym two.1.1
   IsosFileLeads-one (Some bytes) patch name defined target a b (inl one) (inr two) = absurd (laws.isos_apart bytes two.0 one.0 two.1.0 one.1.0)
   IsosFileLeads-one (Some bytes) patch name defined target a b (inr one) (inl two) = absurd (laws.isos_apart bytes one.0 two.0 one.1.0 two.1.0)
   IsosFileLeads-one (Some bytes) patch name defined target a b (inr one) (inr two) =

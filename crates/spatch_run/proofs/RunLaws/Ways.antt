@@ -9,7 +9,8 @@ use Rattle.run_words.specs.declared.order.Mode.{Mode}
 use Rattle.run_words.specs.Orders.{Target, OnFiles, OnText, Order, Apply, Generate, Say, order_of}
 use Rattle.run_words.specs.Faults.{word_fault}
 use Rattle.run_files.specs.RunLines.Words.{refused_words, said}
-use Rattle.run_files.specs.RunLines.Patches.{patch_fault_line, iso_fault_line, forms_line}
+use Rattle.run_files.specs.RunLines.Patches.{patch_fault_line, iso_fault_line, forms_line, iso_byte}
+use Rattle.run_files.specs.RunLines.Further.{placed}
 use Rattle.run_files.specs.Treatment.{file_limit}
 use Rattle.run_files.specs.RunStages.Stages.{Stage, Doing, Ending, ReadIsos, EditFiles, Work, patch_limit, refusing, going}
 use Rattle.run_files.specs.RunStages.Stages.{end_status, begun, begun_by, TargetLeads, ReadLeads, IsosFileLeads}
@@ -121,19 +122,21 @@ module _ (words : List (List ℕ)) (old : Observed) where
       let path = from_order (Some (Apply name isos defined target)) all all 5 found.order
       (refl, (refusing (cannot_read name) 5, ((None, (found.found, refl)), ends_path old pending 5))) refl in
       whole_run acts all 5 status path is over
-  ways_are_acts acts status (bad_patch name bytes isos defined target fault found first is over) =
-      let pending = Report (patch_fault_line name fault) ∷ [] in
+  ways_are_acts acts status (bad_patch name bytes isos defined target fault at found first there is over) =
+      let line = patch_fault_line name (placed bytes at) fault in
+      let pending = Report line ∷ [] in
       let all = Load name patch_limit ∷ pending in
       let path = from_order (Some (Apply name isos defined target)) all all 2 found.order
-      (refl, (refusing (patch_fault_line name fault) 2, ((Some bytes, (found.found, inl (fault, (first, refl)))), ends_path old pending 2))) refl in
+      (refl, (refusing line 2, ((Some bytes, (found.found, inl (fault, (first, (at, (there, refl)))))), ends_path old pending 2))) refl in
       whole_run acts all 2 status path is over
   ways_are_acts acts status (no_isos patch name defined target before found is over) =
       let pending = Report (cannot_read name) ∷ [] in
       let path = isos_path patch name None defined target before (refusing (cannot_read name) 5) pending 5 found refl (ends_path old pending 5) in
       whole_run acts (before ++ pending) 5 status path is over
   ways_are_acts acts status (bad_isos patch name bytes defined target fault before found first is over) =
-      let pending = Report (iso_fault_line name fault) ∷ [] in
-      let path = isos_path patch name (Some bytes) defined target before (refusing (iso_fault_line name fault) 3) pending 3 found (inl (fault, (first, refl)))
+      let line = iso_fault_line name (placed bytes (iso_byte fault)) fault in
+      let pending = Report line ∷ [] in
+      let path = isos_path patch name (Some bytes) defined target before (refusing line 3) pending 3 found (inl (fault, (first, refl)))
       (ends_path old pending 3) in
       whole_run acts (before ++ pending) 3 status path is over
   ways_are_acts acts status (many_forms patch name bytes defined target isos rule before found are many is over) =

@@ -12,7 +12,8 @@ use Rattle.run_words.specs.declared.order.Mode.{Mode}
 use Rattle.run_words.specs.Orders.{Target, OnFiles, OnText, Order, Apply, Generate, Say, order_of}
 use Rattle.run_words.specs.Faults.{word_fault}
 use Rattle.run_files.specs.RunLines.Words.{refused_words, said}
-use Rattle.run_files.specs.RunLines.Patches.{patch_fault_line, iso_fault_line, forms_line}
+use Rattle.run_files.specs.RunLines.Patches.{patch_fault_line, iso_fault_line, forms_line, iso_byte}
+use Rattle.run_files.specs.RunLines.Further.{placed}
 use Rattle.run_files.specs.Treatment.{Treated, file_limit}
 use Rattle.run_files.specs.RunStages.Stages.{Stage, Doing, Ending, ReadIsos, EditFiles, Work, patch_limit, going, end_status}
 use Rattle.run_files.specs.RunStages.Stages.{begun, TargetLeads, ReadLeads, PatchLeads, IsosLead, IsosFileLeads, FileLeads}
@@ -170,7 +171,7 @@ module _ (words : List (List ℕ)) (old : Observed) where
       let end_of = ending-at old mid (Report (cannot_read name) ∷ []) 5 acts last status leads path over in
       no_isos patch name defined target before found (ap (λ (x : List Act). before ++ x) end_of.0) end_of.1
   isos_why patch name (Some bytes) defined target before mid acts last status found (inl bad) path over =
-      let end_of = ending-at old mid (Report (iso_fault_line name bad.0) ∷ []) 3 acts last status bad.1.1 path over in
+      let end_of = ending-at old mid (Report (iso_fault_line name (placed bytes (iso_byte bad.0)) bad.0) ∷ []) 3 acts last status bad.1.1 path over in
       bad_isos patch name bytes defined target bad.0 before found bad.1.0 (ap (λ (x : List Act). before ++ x) end_of.0) end_of.1
   isos_why patch name (Some bytes) defined target before mid acts last status found (inr gives) path over =
       forms_why patch name bytes defined target gives.0 before mid acts last status found gives.1.0 gives.1.1 path over
@@ -208,8 +209,8 @@ module _ (words : List (List ℕ)) (old : Observed) where
       let end_of = ending-at old mid (Report (cannot_read name) ∷ []) 5 acts last status leads path over in
       no_patch name isos defined target found (ap (λ (x : List Act). Load name patch_limit ∷ x) end_of.0) end_of.1
   patch_why name isos defined target (Some bytes) mid acts last status found (inl bad) path over =
-      let end_of = ending-at old mid (Report (patch_fault_line name bad.0) ∷ []) 2 acts last status bad.1.1 path over in
-      bad_patch name bytes isos defined target bad.0 found bad.1.0 (ap (λ (x : List Act). Load name patch_limit ∷ x) end_of.0) end_of.1
+      let end_of = ending-at old mid (Report (patch_fault_line name (placed bytes bad.1.1.0) bad.0) ∷ []) 2 acts last status bad.1.1.1.1 path over in
+      bad_patch name bytes isos defined target bad.0 bad.1.1.0 found bad.1.0 bad.1.1.1.0 (ap (λ (x : List Act). Load name patch_limit ∷ x) end_of.0) end_of.1
   patch_why name isos defined target (Some bytes) mid acts last status found (inr gives) path over =
       let read : PatchRead words old gives.0 isos defined target (Load name patch_limit ∷ []) =
       record { name = name; bytes = bytes; found = found; is = gives.1.0; acts_are = refl } in

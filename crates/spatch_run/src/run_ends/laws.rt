@@ -13,6 +13,7 @@ ghost use Rattle.spatch_run.specs.RunEnds.Fates.{AllThere, NoneRefused, SomeRefu
 
 use crate::run_laws::{acts_have_a_reason, statuses_have_a_cause};
 use read_laws::{bytes_are_read, patches_get_their_forms};
+use smpl_places::faults_have_places;
 use text_laws::chains_have_an_end;
 
 /// It is impossible that some words have no list of acts, whatever a shelf reveals. Does nothing.
@@ -21,6 +22,7 @@ pub fn words_have_acts()
         Weakly ((acts : List Act) × ((status : ℕ) × AreActs words old acts status)) }
 {
     bytes_are_read();
+    faults_have_places();
     patches_get_their_forms();
     chains_have_an_end();
     acts_have_a_reason();

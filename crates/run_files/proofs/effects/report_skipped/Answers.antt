@@ -1,51 +1,29 @@
-use Rattle.std.proofs.Common.{◌≡◌, ◌∙◌, ap, refl, inl, arith, get_or}
-use Rattle.std.proofs.lemmas.Result.{err_from_is_err_and}
-use Rattle.cpp_lines.specs.declared.reading.Why.TheVariants.{NoTree}
+use Rattle.std.proofs.Common.{◌≡◌, ◌<◌, ◌≤◌, [], List, length, refl, ap, map, sym, arith}
+use Rattle.std.proofs.lemmas.Grind.{common_steps}
+use Rattle.std.proofs.lemmas.Result.{err_from_is_err_and, IfErr-weaker, on_ok_weaker}
+use Rattle.c_places.specs.declared.places.TextPlaces.{TextPlaces}
 use Rattle.rule_chain.specs.declared.rule_run.state.SkipNote.{SkipNote}
-use Rattle.outer_io.specs.Files.{grown}
-use Rattle.run_acts.specs.Acts.{observed}
-use Rattle.run_acts.specs.Breaks.{NoneFell, counts}
-use Rattle.run_files.specs.RunLines.Files.{skipped_line}
-use Rattle.run_files.proofs.ActLemmas.{stops_at, does_at, own_default}
-use Rattle.run_files.proofs.TreatLemmas.{note_act}
+use Rattle.run_files.specs.Treatment.{note_act}
+use Rattle.run_files.proofs.ActLemmas.{no_acts, stops_unfed_first}
 use Rattle.run_files.proofs.effects.report_skipped.Goals as goal
 
-abbrev none : SkipNote
-none = record { reading = 0; item = 0; why = NoTree }
+pub returns-then-is_empty-clause-done : goal.returns-then-is_empty-clause-done
+returns-then-is_empty-clause-done g c = λ found are files stores out.
+    no_acts (note_act c.args.name.now c.args.text.now found) c.args.notes.now _ (grind (arith, common_steps))
 
-pub returns-in_err-line-clause-stopped : goal.returns-in_err-line-clause-stopped
-returns-in_err-line-clause-stopped g c =
+pub returns-in_err-found-clause-stopped : goal.returns-in_err-found-clause-stopped
+returns-in_err-found-clause-stopped g c =
     let p = err_from_is_err_and c.from_residual.result c.from_residual.ensures.1 in
-    rw (p.1, p.2) (λ files out stores s o s' o'.
-    let before = counts s o (g.E.Sink.faults c.args.err.now) in
-    let now = counts s' o' (g.E.Sink.faults c.loop-note.err) in
-    let note = get_or c.args.notes.now c.loop-note.note-index none in
-    stops_at (note_act c.args.name.now) c.args.notes.now c.loop-note.note-index note before before now _
-    (observed files stores out (g.E.Sink.written c.loop-note.err)) _ 7
-    (omega arith) (own_default c.args.notes.now c.loop-note.note-index none (omega arith))
-    (record { shelf = omega arith; out = omega arith; err = omega arith })
-    (c.loop-note.invariant.done files stores out) (inl (refl, refl)))
+    let some : 0 < length c.args.notes.now = grind (arith, common_steps) in
+    rw (p.1, p.2) (λ found are files out stores s o s' o'.
+    stops_unfed_first (note_act c.args.name.now c.args.text.now found) c.args.notes.now _ _ _ some)
 
-pub returns-in_err-report-clause-stopped : goal.returns-in_err-report-clause-stopped
-returns-in_err-report-clause-stopped g c =
-    let p = err_from_is_err_and c.from_residual-in_err-report.result c.from_residual-in_err-report.ensures.1 in
-    rw (p.1, p.2) (λ files out stores s o s' o'.
-    let note = get_or c.args.notes.now c.loop-note.note-index none in
-    let put : c.deref.result.now ≡ skipped_line c.args.name.now note = c.deref.ensures.value ∙ c.in_ok-line.ensures.bytes in
-    let fell : NoneFell (counts s o (g.E.Sink.faults c.args.err.now)) (counts s o (g.E.Sink.faults c.loop-note.err)) =
-    record { shelf = omega arith; out = omega arith; err = c.loop-note.invariant.later } in
-    stops_at (note_act c.args.name.now) c.args.notes.now c.loop-note.note-index note _ (counts s o (g.E.Sink.faults c.loop-note.err)) _ _
-    (observed files stores out (g.E.Sink.written c.loop-note.err)) _ _
-    (omega arith) (own_default c.args.notes.now c.loop-note.note-index none (omega arith)) fell
-    (c.loop-note.invariant.done files stores out) (rw put at (c.in_err-report.ensures.stopped files out stores s o s' o')))
+pub returns-clause-done : goal.returns-clause-done
+returns-clause-done g c =
+    on_ok_weaker c.report_notes.result (λ h found are.
+    rw (c.places_are_one.ensures c.args.text.now found c.in_ok-found.found are c.in_ok-found.ensures.places) h) c.report_notes.ensures.done
 
-pub loop-note-preserved : goal.loop-note-preserved
-loop-note-preserved g c = record {
-  later = omega (arith, c.loop-note.invariant.later, c.in_ok-report.ensures.later);
-  done = λ files stores out.
-      let note = get_or c.args.notes.now c.loop-note.note-index none in
-      let put : c.deref.result.now ≡ skipped_line c.args.name.now note = c.deref.ensures.value ∙ c.in_ok-line.ensures.bytes in
-      does_at (note_act c.args.name.now) c.args.notes.now c.loop-note.note-index note _ (observed files stores out (g.E.Sink.written c.loop-note.err)) _
-      (omega arith) (own_default c.args.notes.now c.loop-note.note-index none (omega arith)) (c.loop-note.invariant.done files stores out)
-      (ap (observed files stores out) (c.in_ok-report.ensures.ok ∙ ap (grown (g.E.Sink.written c.loop-note.err)) put));
-}
+pub returns-clause-stopped : goal.returns-clause-stopped
+returns-clause-stopped g c =
+    IfErr-weaker c.report_notes.result _ _ (λ stopped h found are.
+    rw (c.places_are_one.ensures c.args.text.now found c.in_ok-found.found are c.in_ok-found.ensures.places) h) c.report_notes.ensures.stopped

@@ -1,75 +1,82 @@
-use Rattle.std.proofs.Common.{◌≡◌, ◌∙◌, ap, sym, arith, List, ℕ}
+use Rattle.std.proofs.Common.{◌≡◌, ◌∙◌, ◌≤◌, length, sym, arith}
 use Rattle.std.proofs.lemmas.Result.{err_from_is_err_and}
 use Rattle.run_acts.specs.Acts.{observed}
 use Rattle.run_acts.specs.Breaks.{NoneFell, counts}
-use Rattle.run_files.specs.Treatment.{stored_after}
-use Rattle.run_files.proofs.ActLemmas.{Does-as, Stops-as}
-use Rattle.run_files.proofs.TreatLemmas.{applied_some, applied_none, refused_all, refused_part, treated_all}
+use Rattle.rule_chain.specs.Chain.{Done}
+use Rattle.run_files.proofs.TreatLemmas.{applied_some, applied_none, chain_places, refused_all, refused_part, treated_all}
 use Rattle.run_files.proofs.TreatLemmas.{stopped_in_lines, stopped_in_shown, stopped_in_kept}
 use Rattle.run_files.proofs.process.process_file.Goals as goal
 
 pub returns-in_err-applied-clause-stopped : goal.returns-in_err-applied-clause-stopped
 returns-in_err-applied-clause-stopped g c =
-    let p = err_from_is_err_and c.from_residual-in_err-applied.result c.from_residual-in_err-applied.ensures.1 in
-    let rules = c.args.rules.now in
+    let p = err_from_is_err_and c.from_residual.result c.from_residual.ensures.1 in
+    let rules = c.args.rules.now in let text = c.as_slice-text.result.now in
+    let short : length text ≤ 16777216 = rw c.as_slice-text.ensures.value c.requires.short in
     let shelf = c.args.outside.now.shelf.now in let out = c.args.outside.now.out.now in
-    rw (p.1, p.2) (refused_part c.args.mode rules.patch.now rules.defined.now c.args.name.now c.args.bytes.items c.requires.short _ _ _ _ _
+    rw (p.1, p.2, ← c.as_slice-text.ensures.value) (refused_part c.args.mode rules.patch.now rules.defined.now c.args.name.now text short _ _ _ _ _
     (c.in_err-applied.ensures.stopped (g.S.Loads.holds shelf) (g.O.Sink.written out) (g.S.Loads.stores shelf)
     (g.S.Loads.faults shelf) (g.O.Sink.faults out) (g.S.Loads.faults shelf) (g.O.Sink.faults out)))
 
 pub returns-in_default-clause-treated : goal.returns-in_default-clause-treated
 returns-in_default-clause-treated g c =
-    let rules = c.args.rules.now in
+    let rules = c.args.rules.now in let text = c.as_slice-text.result.now in
+    let short : length text ≤ 16777216 = rw c.as_slice-text.ensures.value c.requires.short in
     let shelf = c.args.outside.now.shelf.now in let out = c.args.outside.now.out.now in
-    let is = applied_none rules.patch.now rules.defined.now c.args.name.now c.args.bytes.items c.in_ok-applied.field-0
+    let is = applied_none rules.patch.now rules.defined.now c.args.name.now text c.in_ok-applied.field-0
     (observed (g.S.Loads.holds shelf) (g.S.Loads.stores shelf) (g.O.Sink.written out) (g.E.Sink.written c.args.outside.now.err.now))
     (observed (g.S.Loads.holds shelf) (g.S.Loads.stores shelf) (g.O.Sink.written out) (g.E.Sink.written c.apply_or_refuse.new.err))
     c.in_default.not-Some (c.in_ok-applied.ensures.done (g.S.Loads.holds shelf) (g.S.Loads.stores shelf) (g.O.Sink.written out)) in
-    refused_all c.args.mode rules.patch.now rules.defined.now c.args.name.now c.args.bytes.items c.requires.short _ _ is
+    rw (← c.as_slice-text.ensures.value) (refused_all c.args.mode rules.patch.now rules.defined.now c.args.name.now text short _ _ is)
 
 pub returns-in_err-report_skipped-clause-stopped : goal.returns-in_err-report_skipped-clause-stopped
 returns-in_err-report_skipped-clause-stopped g c =
     let p = err_from_is_err_and c.from_residual-in_err-report_skipped.result c.from_residual-in_err-report_skipped.ensures.1 in
-    let rules = c.args.rules.now in
+    let rules = c.args.rules.now in let text = c.as_slice-text.result.now in
+    let short : length text ≤ 16777216 = rw c.as_slice-text.ensures.value c.requires.short in
     let shelf = c.args.outside.now.shelf.now in let out = c.args.outside.now.out.now in
-    let is = applied_some rules.patch.now rules.defined.now c.args.name.now c.args.bytes.items c.in_ok-applied.field-0 c.in-Some.applied
+    let is = applied_some rules.patch.now rules.defined.now c.args.name.now text c.in_ok-applied.field-0 c.in-Some.applied
     (observed (g.S.Loads.holds shelf) (g.S.Loads.stores shelf) (g.O.Sink.written out) (g.E.Sink.written c.args.outside.now.err.now))
     (observed (g.S.Loads.holds shelf) (g.S.Loads.stores shelf) (g.O.Sink.written out) (g.E.Sink.written c.apply_or_refuse.new.err))
     c.in-Some.is (c.in_ok-applied.ensures.done (g.S.Loads.holds shelf) (g.S.Loads.stores shelf) (g.O.Sink.written out)) in
+    let found = chain_places rules.patch.now.rules rules.defined.now text (Done is.0) is.1.0 in
     let fell : NoneFell (counts (g.S.Loads.faults shelf) (g.O.Sink.faults out) (g.E.Sink.faults c.args.outside.now.err.now))
     (counts (g.S.Loads.faults shelf) (g.O.Sink.faults out) (g.E.Sink.faults c.apply_or_refuse.new.err)) =
     record { shelf = omega arith; out = omega arith; err = c.in_ok-applied.ensures.later } in
-    rw (p.1, p.2) (stopped_in_lines c.args.mode rules.patch.now rules.defined.now c.args.name.now c.args.bytes.items c.requires.short is.0 is.1.0
-    c.as_slice.result.now (c.as_slice.ensures ∙ is.1.1.0.skipped) _ _ _ _ _ _ _ fell is.1.1.1
-    (c.in_err-report_skipped.ensures.stopped (g.S.Loads.holds shelf) (g.O.Sink.written out) (g.S.Loads.stores shelf)
+    rw (p.1, p.2, ← c.as_slice-text.ensures.value) (stopped_in_lines c.args.mode rules.patch.now rules.defined.now c.args.name.now text short is.0 is.1.0
+    found.0 found.1 c.as_slice.result.now (c.as_slice.ensures ∙ is.1.1.0.skipped) _ _ _ _ _ _ _ fell is.1.1.1
+    (c.in_err-report_skipped.ensures.stopped found.0 found.1 (g.S.Loads.holds shelf) (g.O.Sink.written out) (g.S.Loads.stores shelf)
     (g.S.Loads.faults shelf) (g.O.Sink.faults out) (g.S.Loads.faults shelf) (g.O.Sink.faults out)))
 
 pub returns-in_err-show_file-clause-stopped : goal.returns-in_err-show_file-clause-stopped
 returns-in_err-show_file-clause-stopped g c =
     let p = err_from_is_err_and c.from_residual-in_err-show_file.result c.from_residual-in_err-show_file.ensures.1 in
-    let rules = c.args.rules.now in
+    let rules = c.args.rules.now in let text = c.as_slice-text.result.now in
+    let short : length text ≤ 16777216 = rw c.as_slice-text.ensures.value c.requires.short in
     let shelf = c.args.outside.now.shelf.now in let out = c.args.outside.now.out.now in
-    let is = applied_some rules.patch.now rules.defined.now c.args.name.now c.args.bytes.items c.in_ok-applied.field-0 c.in-Some.applied
+    let is = applied_some rules.patch.now rules.defined.now c.args.name.now text c.in_ok-applied.field-0 c.in-Some.applied
     (observed (g.S.Loads.holds shelf) (g.S.Loads.stores shelf) (g.O.Sink.written out) (g.E.Sink.written c.args.outside.now.err.now))
     (observed (g.S.Loads.holds shelf) (g.S.Loads.stores shelf) (g.O.Sink.written out) (g.E.Sink.written c.apply_or_refuse.new.err))
     c.in-Some.is (c.in_ok-applied.ensures.done (g.S.Loads.holds shelf) (g.S.Loads.stores shelf) (g.O.Sink.written out)) in
+    let found = chain_places rules.patch.now.rules rules.defined.now text (Done is.0) is.1.0 in
     let fell : NoneFell (counts (g.S.Loads.faults shelf) (g.O.Sink.faults out) (g.E.Sink.faults c.args.outside.now.err.now))
     (counts (g.S.Loads.faults shelf) (g.O.Sink.faults out) (g.E.Sink.faults c.report_skipped.new.err)) =
     record { shelf = omega arith; out = omega arith; err = omega (arith, c.in_ok-applied.ensures.later, c.in_ok-report_skipped.ensures.later) } in
-    rw (p.1, p.2) (stopped_in_shown c.args.mode rules.patch.now rules.defined.now c.args.name.now c.args.bytes.items c.requires.short is.0 is.1.0
-    c.as_slice.result.now (c.as_slice.ensures ∙ is.1.1.0.skipped) _ _ _ _ _ _ _ _ fell is.1.1.1
-    (c.in_ok-report_skipped.ensures.done (g.S.Loads.holds shelf) (g.S.Loads.stores shelf) (g.O.Sink.written out))
+    rw (p.1, p.2, ← c.as_slice-text.ensures.value) (stopped_in_shown c.args.mode rules.patch.now rules.defined.now c.args.name.now text short is.0 is.1.0
+    found.0 found.1 c.as_slice.result.now (c.as_slice.ensures ∙ is.1.1.0.skipped) _ _ _ _ _ _ _ _ fell is.1.1.1
+    (c.in_ok-report_skipped.ensures.done found.0 found.1 (g.S.Loads.holds shelf) (g.S.Loads.stores shelf) (g.O.Sink.written out))
     (c.in_err-show_file.ensures.stopped is.0 is.1.1.0))
 
 pub returns-in_err-store_file-clause-stopped : goal.returns-in_err-store_file-clause-stopped
 returns-in_err-store_file-clause-stopped g c =
     let p = err_from_is_err_and c.from_residual-in_err-store_file.result c.from_residual-in_err-store_file.ensures.1 in
-    let rules = c.args.rules.now in
+    let rules = c.args.rules.now in let text = c.as_slice-text.result.now in
+    let short : length text ≤ 16777216 = rw c.as_slice-text.ensures.value c.requires.short in
     let shelf = c.args.outside.now.shelf.now in let out = c.args.outside.now.out.now in let name = c.args.name.now in
-    let is = applied_some rules.patch.now rules.defined.now c.args.name.now c.args.bytes.items c.in_ok-applied.field-0 c.in-Some.applied
+    let is = applied_some rules.patch.now rules.defined.now c.args.name.now text c.in_ok-applied.field-0 c.in-Some.applied
     (observed (g.S.Loads.holds shelf) (g.S.Loads.stores shelf) (g.O.Sink.written out) (g.E.Sink.written c.args.outside.now.err.now))
     (observed (g.S.Loads.holds shelf) (g.S.Loads.stores shelf) (g.O.Sink.written out) (g.E.Sink.written c.apply_or_refuse.new.err))
     c.in-Some.is (c.in_ok-applied.ensures.done (g.S.Loads.holds shelf) (g.S.Loads.stores shelf) (g.O.Sink.written out)) in
+    let found = chain_places rules.patch.now.rules rules.defined.now text (Done is.0) is.1.0 in
     let fell : NoneFell (counts (g.S.Loads.faults shelf) (g.O.Sink.faults out) (g.E.Sink.faults c.args.outside.now.err.now))
     (counts (g.S.Loads.faults c.show_file.new.outside.shelf.now) (g.O.Sink.faults c.show_file.new.outside.out.now)
     (g.E.Sink.faults c.show_file.new.outside.err.now)) =
@@ -78,32 +85,26 @@ returns-in_err-store_file-clause-stopped g c =
       out = omega (arith, c.in_ok-show_file.ensures.later_out);
       err = omega (arith, c.in_ok-applied.ensures.later, c.in_ok-report_skipped.ensures.later, c.in_ok-show_file.ensures.later_err);
     } in
-    let text : is.0.page.bytes ≡ c.deref-3.result.now = sym (c.deref-3.ensures.value ∙ is.1.1.0.bytes) in
-    let same : stored_after c.args.mode name c.deref-2.result.now is.0 ≡ stored_after c.args.mode name c.args.bytes.items is.0 =
-    ap (λ (b : List ℕ). stored_after c.args.mode name b is.0) c.deref-2.ensures.value ∙ c.in_ok-old.ensures name is.0
-    ∙ ap (λ (b : List ℕ). stored_after c.args.mode name b is.0) c.deref.ensures.value in
-    let cut = c.in_err-store_file.ensures.stopped is.0 text in
-    rw (p.1, p.2) (stopped_in_kept c.args.mode rules.patch.now rules.defined.now name c.args.bytes.items c.requires.short is.0 is.1.0
-    c.as_slice.result.now (c.as_slice.ensures ∙ is.1.1.0.skipped) _ _ _ _ _ _ _ _ _ fell is.1.1.1
-    (c.in_ok-report_skipped.ensures.done (g.S.Loads.holds shelf) (g.S.Loads.stores shelf) (g.O.Sink.written out))
+    let left : is.0.page.bytes ≡ c.deref.result.now = sym (c.deref.ensures.value ∙ is.1.1.0.bytes) in
+    rw (p.1, p.2, ← c.as_slice-text.ensures.value) (stopped_in_kept c.args.mode rules.patch.now rules.defined.now name text short is.0 is.1.0
+    found.0 found.1 c.as_slice.result.now (c.as_slice.ensures ∙ is.1.1.0.skipped) _ _ _ _ _ _ _ _ _ fell is.1.1.1
+    (c.in_ok-report_skipped.ensures.done found.0 found.1 (g.S.Loads.holds shelf) (g.S.Loads.stores shelf) (g.O.Sink.written out))
     (c.in_ok-show_file.ensures.done is.0 is.1.1.0)
-    (Stops-as (stored_after c.args.mode name c.deref-2.result.now is.0) (stored_after c.args.mode name c.args.bytes.items is.0) _ _ _ _ _ same cut))
+    (c.in_err-store_file.ensures.stopped is.0 left))
 
 pub returns-clause-treated : goal.returns-clause-treated
 returns-clause-treated g c =
-    let rules = c.args.rules.now in
+    let rules = c.args.rules.now in let text = c.as_slice-text.result.now in
+    let short : length text ≤ 16777216 = rw c.as_slice-text.ensures.value c.requires.short in
     let shelf = c.args.outside.now.shelf.now in let out = c.args.outside.now.out.now in let name = c.args.name.now in
-    let is = applied_some rules.patch.now rules.defined.now c.args.name.now c.args.bytes.items c.in_ok-applied.field-0 c.in-Some.applied
+    let is = applied_some rules.patch.now rules.defined.now c.args.name.now text c.in_ok-applied.field-0 c.in-Some.applied
     (observed (g.S.Loads.holds shelf) (g.S.Loads.stores shelf) (g.O.Sink.written out) (g.E.Sink.written c.args.outside.now.err.now))
     (observed (g.S.Loads.holds shelf) (g.S.Loads.stores shelf) (g.O.Sink.written out) (g.E.Sink.written c.apply_or_refuse.new.err))
     c.in-Some.is (c.in_ok-applied.ensures.done (g.S.Loads.holds shelf) (g.S.Loads.stores shelf) (g.O.Sink.written out)) in
-    let text : is.0.page.bytes ≡ c.deref-3.result.now = sym (c.deref-3.ensures.value ∙ is.1.1.0.bytes) in
-    let same : stored_after c.args.mode name c.deref-2.result.now is.0 ≡ stored_after c.args.mode name c.args.bytes.items is.0 =
-    ap (λ (b : List ℕ). stored_after c.args.mode name b is.0) c.deref-2.ensures.value ∙ c.in_ok-old.ensures name is.0
-    ∙ ap (λ (b : List ℕ). stored_after c.args.mode name b is.0) c.deref.ensures.value in
-    treated_all c.args.mode rules.patch.now rules.defined.now name c.args.bytes.items c.requires.short is.0 is.1.0
-    c.as_slice.result.now (c.as_slice.ensures ∙ is.1.1.0.skipped) _ _ _ _ _ is.1.1.1
-    (c.in_ok-report_skipped.ensures.done (g.S.Loads.holds shelf) (g.S.Loads.stores shelf) (g.O.Sink.written out))
+    let found = chain_places rules.patch.now.rules rules.defined.now text (Done is.0) is.1.0 in
+    let left : is.0.page.bytes ≡ c.deref.result.now = sym (c.deref.ensures.value ∙ is.1.1.0.bytes) in
+    rw (← c.as_slice-text.ensures.value) (treated_all c.args.mode rules.patch.now rules.defined.now name text short is.0 is.1.0
+    found.0 found.1 c.as_slice.result.now (c.as_slice.ensures ∙ is.1.1.0.skipped) _ _ _ _ _ is.1.1.1
+    (c.in_ok-report_skipped.ensures.done found.0 found.1 (g.S.Loads.holds shelf) (g.S.Loads.stores shelf) (g.O.Sink.written out))
     (c.in_ok-show_file.ensures.done is.0 is.1.1.0)
-    (Does-as (stored_after c.args.mode name c.deref-2.result.now is.0) (stored_after c.args.mode name c.args.bytes.items is.0) _ _ same
-    (c.in_ok-store_file.ensures.done is.0 text))
+    (c.in_ok-store_file.ensures.done is.0 left))

@@ -11,13 +11,13 @@ pub returns-in_err-line : goal.returns-in_err-line
 returns-in_err-line g c = record {
   ends = λ files out stores s o.
       let p = err_from_is_err_and c.from_residual.result c.from_residual.ensures.1 in
-      rw (p.1, p.2) (broken (refusing (iso_fault_line c.args.name.now c.args.fault) 3)
-      (Report (iso_fault_line c.args.name.now c.args.fault)) refl (NoneFell-refl _) (inl (refl, refl)));
+      rw (p.1, p.2) (broken (refusing (iso_fault_line c.args.name.now c.args.place c.args.fault) 3)
+      (Report (iso_fault_line c.args.name.now c.args.place c.args.fault)) refl (NoneFell-refl _) (inl (refl, refl)));
 }
 
 pub returns : goal.returns
 returns g c = record {
   ends = λ files out stores s o.
-      let put : c.deref.result.now ≡ iso_fault_line c.args.name.now c.args.fault = c.deref.ensures.value ∙ c.in_ok-line.ensures.bytes in
+      let put : c.deref.result.now ≡ iso_fault_line c.args.name.now c.args.place c.args.fault = c.deref.ensures.value ∙ c.in_ok-line.ensures.bytes in
       rw put at (c.end_by.ensures.ends files out stores s o);
 }

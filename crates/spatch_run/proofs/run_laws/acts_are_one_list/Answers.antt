@@ -13,6 +13,8 @@ returns c =
       whole = c.patches_are_expanded_once.ensures.whole;
       rule = c.patches_are_expanded_once.ensures.rule;
       whole_apart = c.patches_are_expanded_once.ensures.apart;
+      patch_place = c.faults_have_one_place.ensures;
+      places = c.places_are_one.ensures;
       chain = c.chain_has_one_end.ensures;
     } in
     record { same = acts_one laws; begins = first_acts laws }

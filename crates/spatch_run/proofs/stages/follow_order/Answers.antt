@@ -1,4 +1,4 @@
-use Rattle.std.proofs.Common.{◌≡◌, Some, [], refl, arith}
+use Rattle.std.proofs.Common.{◌≡◌, Some, None, [], refl, sym, arith}
 use Rattle.std.proofs.lemmas.Result.{err_from_is_err_and}
 use Rattle.run_acts.specs.Breaks.{NoneFell, counts}
 use Rattle.run_acts.specs.Lines.{cannot_read}
@@ -6,6 +6,7 @@ use Rattle.run_acts.proofs.BreaksLemmas.{NoneFell-refl}
 use Rattle.smpl_patch.specs.declared.fault.PatchFault.TheVariants as patch_fault
 use Rattle.smpl_file.specs.Patches.{IsFirstFault}
 use Rattle.run_words.specs.Shown.{shown_isos, shown_target}
+use Rattle.run_files.specs.RunLines.Further.{placed}
 use Rattle.run_files.specs.RunLines.Patches.{patch_fault_line}
 use Rattle.run_files.specs.RunStages.Stages.{Doing, ReadPatch, ReadLeads, refusing, first_load}
 use Rattle.spatch_run.proofs.Chain.{broken}
@@ -16,7 +17,7 @@ pub give_forms-requires-clause-few : goal.give_forms-requires-clause-few
 give_forms-requires-clause-few g c κs within = c.requires.few
 
 pub give_forms-requires-clause-read : goal.give_forms-requires-clause-read
-give_forms-requires-clause-read g c κs within = (c.deref.result.now, c.in-Ok.ensures.patch)
+give_forms-requires-clause-read g c κs within = (c.as_slice-text.result.now, c.in-Ok.ensures.patch)
 
 pub returns-in_err-bytes-clause-ends : goal.returns-in_err-bytes-clause-ends
 returns-in_err-bytes-clause-ends g c =
@@ -39,7 +40,7 @@ returns-in-TooLong-clause-ends g c =
     let fell : NoneFell (counts (g.S.Loads.faults old.shelf.now) (g.O.Sink.faults old.out.now) (g.E.Sink.faults old.err.now))
     (counts (g.S.Loads.faults c.load.new.shelf) (g.O.Sink.faults old.out.now) (g.E.Sink.faults c.load.new.err)) =
     record { shelf = c.in_ok-bytes.ensures.later; out = omega arith; err = c.in_ok-bytes.ensures.later_err } in
-    loaded (ReadPatch name isos defined target) (refusing (patch_fault_line name patch_fault.PatchTooLong) 2)
+    loaded (ReadPatch name isos defined target) (refusing (patch_fault_line name None patch_fault.PatchTooLong) 2)
     (found.0, (found.1.0, patch_long name isos defined target found.0 found.1.1))
     (no_trace c.in_ok-bytes.ensures.same c.in_ok-bytes.ensures.no_store c.in_ok-bytes.ensures.ok_err) fell (c.refuse_patch.ensures.ends _ _ _ _ _)
 
@@ -61,7 +62,7 @@ returns-in-Absent-clause-ends g c =
 pub returns-in-Ok-clause-ends : goal.returns-in-Ok-clause-ends
 returns-in-Ok-clause-ends g c =
     let found = rw c.in-Bytes.is at c.in_ok-bytes.ensures.loaded in
-    let under : found.0 ≡ Some c.deref.result.now = rw c.deref.ensures.value found.1.1.0 in
+    let under : found.0 ≡ Some c.as_slice-text.result.now = rw c.as_slice-text.ensures.value found.1.1.0 in
     let name = c.args.order.now.patch.now in
     let isos = shown_isos c.args.order.now.isos in
     let defined = c.args.order.now.defined.items in
@@ -75,7 +76,7 @@ returns-in-Ok-clause-ends g c =
       found.0,
       (
         found.1.0,
-        patch_read name isos defined target found.0 c.deref.result.now c.in-Ok.patch under
+        patch_read name isos defined target found.0 c.as_slice-text.result.now c.in-Ok.patch under
             c.in-Ok.ensures.patch to leads,
       ),
     )) (no_trace c.in_ok-bytes.ensures.same c.in_ok-bytes.ensures.no_store
@@ -94,11 +95,25 @@ returns-then-is_no_memory-clause-ends g c =
     loaded_unfed (ReadPatch name isos defined target)
     (no_trace c.in_ok-bytes.ensures.same c.in_ok-bytes.ensures.no_store c.in_ok-bytes.ensures.ok_err) fell (NoneFell-refl _) refl refl
 
+pub returns-in_err-at-in-Err-clause-ends : goal.returns-in_err-at-in-Err-clause-ends
+returns-in_err-at-in-Err-clause-ends g c =
+    let p = err_from_is_err_and c.from_residual-in_err-at-in-Err.result c.from_residual-in_err-at-in-Err.ensures.1 in
+    let name = c.args.order.now.patch.now in
+    let isos = shown_isos c.args.order.now.isos in
+    let defined = c.args.order.now.defined.items in
+    let target = shown_target c.args.order.now.target in
+    let old = c.args.outside.now in
+    let fell : NoneFell (counts (g.S.Loads.faults old.shelf.now) (g.O.Sink.faults old.out.now) (g.E.Sink.faults old.err.now))
+    (counts (g.S.Loads.faults c.load.new.shelf) (g.O.Sink.faults old.out.now) (g.E.Sink.faults c.load.new.err)) =
+    record { shelf = c.in_ok-bytes.ensures.later; out = omega arith; err = c.in_ok-bytes.ensures.later_err } in
+    rw (p.1, p.2) (loaded_unfed (ReadPatch name isos defined target)
+    (no_trace c.in_ok-bytes.ensures.same c.in_ok-bytes.ensures.no_store c.in_ok-bytes.ensures.ok_err) fell (NoneFell-refl _) refl refl)
+
 pub returns-clause-ends : goal.returns-clause-ends
 returns-clause-ends g c =
     let found = rw c.in-Bytes.is at c.in_ok-bytes.ensures.loaded in
-    let under : found.0 ≡ Some c.deref.result.now = rw c.deref.ensures.value found.1.1.0 in
-    let bad : IsFirstFault c.deref.result.now c.in-Err.fault =
+    let under : found.0 ≡ Some c.as_slice-text.result.now = rw c.as_slice-text.ensures.value found.1.1.0 in
+    let bad : IsFirstFault c.as_slice-text.result.now c.in-Err.fault =
     not_memory c.is_no_memory.result c.if-is_no_memory.false c.is_no_memory.ensures c.in-Err.ensures.fault in
     let name = c.args.order.now.patch.now in
     let isos = shown_isos c.args.order.now.isos in
@@ -108,6 +123,14 @@ returns-clause-ends g c =
     let fell : NoneFell (counts (g.S.Loads.faults old.shelf.now) (g.O.Sink.faults old.out.now) (g.E.Sink.faults old.err.now))
     (counts (g.S.Loads.faults c.load.new.shelf) (g.O.Sink.faults old.out.now) (g.E.Sink.faults c.load.new.err)) =
     record { shelf = c.in_ok-bytes.ensures.later; out = omega arith; err = c.in_ok-bytes.ensures.later_err } in
-    loaded (ReadPatch name isos defined target) (refusing (patch_fault_line name c.in-Err.fault) 2)
-    (found.0, (found.1.0, patch_bad name isos defined target found.0 c.deref.result.now c.in-Err.fault under bad))
-    (no_trace c.in_ok-bytes.ensures.same c.in_ok-bytes.ensures.no_store c.in_ok-bytes.ensures.ok_err) fell (c.refuse_patch-in-Err.ensures.ends _ _ _ _ _)
+    let line : placed c.as_slice-text.result.now c.in_ok-at-in-Err.at ≡ c.placed.result = sym c.placed.ensures.place in
+    loaded (ReadPatch name isos defined target) (refusing (patch_fault_line name (placed c.as_slice-text.result.now c.in_ok-at-in-Err.at) c.in-Err.fault) 2) (
+      found.0,
+      (
+        found.1.0,
+        patch_bad name isos defined target found.0 c.as_slice-text.result.now c.in-Err.fault c.in_ok-at-in-Err.at under bad
+            c.in_ok-at-in-Err.ensures.place,
+      ),
+    )
+    (no_trace c.in_ok-bytes.ensures.same c.in_ok-bytes.ensures.no_store c.in_ok-bytes.ensures.ok_err) fell
+    (rw line (c.refuse_patch-in-Err.ensures.ends _ _ _ _ _))

@@ -1,4 +1,4 @@
-use Rattle.std.proofs.Common.{◌≡◌, Some, [], refl, arith}
+use Rattle.std.proofs.Common.{◌≡◌, Some, None, [], refl, sym, arith}
 use Rattle.std.proofs.lemmas.Result.{err_from_is_err_and}
 use Rattle.run_acts.specs.Breaks.{NoneFell, counts}
 use Rattle.run_acts.specs.Lines.{cannot_read}
@@ -6,7 +6,8 @@ use Rattle.run_acts.proofs.BreaksLemmas.{NoneFell-refl}
 use Rattle.iso_file.specs.declared.fault.IsoFault.TheVariants as iso_fault
 use Rattle.iso_file.specs.Isos.{IsFileFault}
 use Rattle.run_words.specs.Shown.{shown_target}
-use Rattle.run_files.specs.RunLines.Patches.{iso_fault_line}
+use Rattle.run_files.specs.RunLines.Further.{placed}
+use Rattle.run_files.specs.RunLines.Patches.{iso_fault_line, iso_byte}
 use Rattle.run_files.specs.RunStages.Stages.{Doing, ReadIsos, IsosLead, refusing, first_load}
 use Rattle.spatch_run.proofs.Chain.{broken}
 use Rattle.spatch_run.proofs.Leading.{no_trace, loaded, loaded_unfed, loaded_by, not_memory, isos_absent, isos_long, isos_bad, isos_read}
@@ -38,7 +39,7 @@ returns-in-TooLong-clause-ends g c =
     let fell : NoneFell (counts (g.S.Loads.faults old.shelf.now) (g.O.Sink.faults old.out.now) (g.E.Sink.faults old.err.now))
     (counts (g.S.Loads.faults c.load.new.shelf) (g.O.Sink.faults old.out.now) (g.E.Sink.faults c.load.new.err)) =
     record { shelf = c.in_ok-bytes.ensures.later; out = omega arith; err = c.in_ok-bytes.ensures.later_err } in
-    loaded (ReadIsos patch name defined target) (refusing (iso_fault_line name iso_fault.TooLong) 3)
+    loaded (ReadIsos patch name defined target) (refusing (iso_fault_line name None iso_fault.TooLong) 3)
     (found.0, (found.1.0, isos_long patch name defined target found.0 found.1.1))
     (no_trace c.in_ok-bytes.ensures.same c.in_ok-bytes.ensures.no_store c.in_ok-bytes.ensures.ok_err) fell (c.refuse_isos.ensures.ends _ _ _ _ _)
 
@@ -60,7 +61,7 @@ returns-in-Absent-clause-ends g c =
 pub returns-in-Ok-clause-ends : goal.returns-in-Ok-clause-ends
 returns-in-Ok-clause-ends g c =
     let found = rw c.in-Bytes.is at c.in_ok-bytes.ensures.loaded in
-    let under : found.0 ≡ Some c.deref.result.now = rw c.deref.ensures.value found.1.1.0 in
+    let under : found.0 ≡ Some c.as_slice-text.result.now = rw c.as_slice-text.ensures.value found.1.1.0 in
     let patch = c.args.patch in
     let name = c.args.name.now in
     let defined = c.args.order.now.defined.items in
@@ -74,7 +75,7 @@ returns-in-Ok-clause-ends g c =
       found.0,
       (
         found.1.0,
-        isos_read patch name defined target found.0 c.deref.result.now
+        isos_read patch name defined target found.0 c.as_slice-text.result.now
             c.as_slice.result.now under (rw c.as_slice.ensures c.in-Ok.ensures.isos) to leads,
       ),
     ))
@@ -96,8 +97,8 @@ returns-then-is_no_memory_for_isos-clause-ends g c =
 pub returns-else-is_no_memory_for_isos-clause-ends : goal.returns-else-is_no_memory_for_isos-clause-ends
 returns-else-is_no_memory_for_isos-clause-ends g c =
     let found = rw c.in-Bytes.is at c.in_ok-bytes.ensures.loaded in
-    let under : found.0 ≡ Some c.deref.result.now = rw c.deref.ensures.value found.1.1.0 in
-    let bad : IsFileFault c.deref.result.now c.in-Err.fault =
+    let under : found.0 ≡ Some c.as_slice-text.result.now = rw c.as_slice-text.ensures.value found.1.1.0 in
+    let bad : IsFileFault c.as_slice-text.result.now c.in-Err.fault =
     not_memory c.is_no_memory_for_isos.result c.if-is_no_memory_for_isos.false c.is_no_memory_for_isos.ensures c.in-Err.ensures.fault in
     let patch = c.args.patch in
     let name = c.args.name.now in
@@ -107,6 +108,10 @@ returns-else-is_no_memory_for_isos-clause-ends g c =
     let fell : NoneFell (counts (g.S.Loads.faults old.shelf.now) (g.O.Sink.faults old.out.now) (g.E.Sink.faults old.err.now))
     (counts (g.S.Loads.faults c.load.new.shelf) (g.O.Sink.faults old.out.now) (g.E.Sink.faults c.load.new.err)) =
     record { shelf = c.in_ok-bytes.ensures.later; out = omega arith; err = c.in_ok-bytes.ensures.later_err } in
-    loaded (ReadIsos patch name defined target) (refusing (iso_fault_line name c.in-Err.fault) 3)
-    (found.0, (found.1.0, isos_bad patch name defined target found.0 c.deref.result.now c.in-Err.fault under bad))
-    (no_trace c.in_ok-bytes.ensures.same c.in_ok-bytes.ensures.no_store c.in_ok-bytes.ensures.ok_err) fell (c.refuse_isos-in-Err.ensures.ends _ _ _ _ _)
+    let line : placed c.as_slice-text.result.now (iso_byte c.in-Err.fault) ≡ c.placed.result =
+    rw (← c.iso_byte-at.ensures) (sym c.placed.ensures.place) in
+    loaded (ReadIsos patch name defined target)
+    (refusing (iso_fault_line name (placed c.as_slice-text.result.now (iso_byte c.in-Err.fault)) c.in-Err.fault) 3)
+    (found.0, (found.1.0, isos_bad patch name defined target found.0 c.as_slice-text.result.now c.in-Err.fault under bad))
+    (no_trace c.in_ok-bytes.ensures.same c.in_ok-bytes.ensures.no_store c.in_ok-bytes.ensures.ok_err) fell
+    (rw line (c.refuse_isos-in-Err.ensures.ends _ _ _ _ _))

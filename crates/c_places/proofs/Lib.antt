@@ -1,0 +1,3 @@
+mod StartLemmas
+mod WithinLemmas
+pub mod Examples

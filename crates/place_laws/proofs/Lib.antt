@@ -1,0 +1,4 @@
+mod Below
+mod SpellingFaults
+mod MeaningFaults
+mod FirstFaults

@@ -1,0 +1,4 @@
+pub mod PlaceLaws
+pub mod UnspelledLemmas
+pub mod CodeLemmas
+pub mod Examples

@@ -11,9 +11,8 @@ use Rattle.c_lexer.specs.Kinds.{kind_of}
 use Rattle.c_lexer.specs.First.{IsFirst}
 use Rattle.c_lexer.specs.Pieces.{TextPiece, text_of}
 use Rattle.c_lexer.specs.Lexes.{Lexes, Cuts, HasId, Numbered, id_after}
-use Rattle.cpp_lines.specs.Shown.{is_word}
 use Rattle.c_places.specs.declared.places.TextPlaces.{TextPlaces}
-use Rattle.c_places.specs.Starts.{piece_start, starts_from, token_starts, ArePlaces}
+use Rattle.c_places.specs.Starts.{is_token, piece_start, starts_from, token_starts, ArePlaces}
 
 -- ---- within the text
 
@@ -47,7 +46,7 @@ one_later whole number p ps at h =
 of_piece : (whole : List TextPiece) (number : ℕ) (rest : List TextPiece) (n at : ℕ)
     → slice_get (starts_from whole number rest) n ≡ Some at → IsOfPiece whole number rest at
 of_piece whole number [] n at is = absurd cc
-of_piece whole number (p ∷ ps) n at is = by (is_word p.kind) n (λ m e. of_piece whole (suc number) ps m at e) is
+of_piece whole number (p ∷ ps) n at is = by (is_token p.kind) n (λ m e. of_piece whole (suc number) ps m at e) is
   where
     by : (b : Bool) (m : ℕ) → ((k : ℕ) → slice_get (starts_from whole (suc number) ps) k ≡ Some at → IsOfPiece whole (suc number) ps at)
         → slice_get (cond b (piece_start whole number ∷ starts_from whole (suc number) ps) (starts_from whole (suc number) ps)) m ≡ Some at
@@ -62,7 +61,7 @@ of_piece whole number (p ∷ ps) n at is = by (is_word p.kind) n (λ m e. of_pie
 pub within : (text : List ℕ) (places : TextPlaces) (id at : ℕ) → ArePlaces text places → slice_get places.tokens id ≡ Some at → at < length text
 within text places id at are is =
     let pieces : List TextPiece = are.0 in
-    let same : places.tokens ≡ token_starts pieces = ap (λ (found : TextPlaces). found.tokens) are.1.1.1.1 in
+    let same : places.tokens ≡ token_starts pieces = ap (λ (found : TextPlaces). found.tokens) are.1.1 in
     let there : slice_get (token_starts pieces) id ≡ Some at = ap (λ (starts : List ℕ). slice_get starts id) (sym same) ∙ is in
     let found : IsOfPiece pieces 0 pieces at = of_piece pieces 0 pieces id at there in
     let before : piece_start pieces found.0 < length (text_of pieces) = before_end pieces are.1.0.1.0 found.0 found.1.0 in
@@ -76,7 +75,7 @@ within text places id at are is =
 module _ (x : ℕ) (starts : List ℕ) (next id : ℕ) where
   -- a token with this id is the first
   first_is : (k : PieceKind) → HasId k next → (kind : TokenKind) → k ≡ Word kind id
-      → (next ≤ id) × (slice_get (cond (is_word k) (x ∷ starts) starts) (id - next) ≡ Some x)
+      → (next ≤ id) × (slice_get (cond (is_token k) (x ∷ starts) starts) (id - next) ≡ Some x)
   first_is (Word own number) has kind e =
       let same : number ≡ id = cc in
       let is : id ≡ next = sym same ∙ has in
@@ -88,7 +87,7 @@ module _ (x : ℕ) (starts : List ℕ) (next id : ℕ) where
 
   -- a later token has it
   later_is : (k : PieceKind) → HasId k next → (at : ℕ) → (id_after k next ≤ id) × (slice_get starts (id - id_after k next) ≡ Some at)
-      → (next ≤ id) × (slice_get (cond (is_word k) (x ∷ starts) starts) (id - next) ≡ Some at)
+      → (next ≤ id) × (slice_get (cond (is_token k) (x ∷ starts) starts) (id - next) ≡ Some at)
   later_is (Word own number) has at h =
       let e : id - next ≡ suc (id - (next + 1)) = omega (arith, h.0) in
       (omega (arith, h.0), ap (slice_get (x ∷ starts)) e ∙ h.1)
@@ -119,7 +118,7 @@ module _ (cut_once : (text : List ℕ) (left right : List TextPiece) → Lexes t
       → slice_get places.tokens id ≡ Some (piece_start pieces i)
   where_its_id_says text pieces places i id kind bytes lexes are is =
       let same : are.0 ≡ pieces = cut_once text are.0 pieces are.1.0 lexes in
-      let tokens : places.tokens ≡ token_starts are.0 = ap (λ (found : TextPlaces). found.tokens) are.1.1.1.1 in
+      let tokens : places.tokens ≡ token_starts are.0 = ap (λ (found : TextPlaces). found.tokens) are.1.1 in
       let found = at_id pieces 0 0 pieces lexes.1.1 i id kind bytes is in
       let zeroth : 0 + i ≡ i = omega arith in
       let whole : id - 0 ≡ id = omega arith in

@@ -1,2 +1,2 @@
--- What contracts depend on: where the tokens and the items of a text begin.
+-- What contracts depend on: where the tokens of a text begin.
 pub mod Starts

@@ -8,14 +8,12 @@ ghost use Rattle.c_places.specs.declared.places.TextPlaces.{TextPlaces as Starts
 ghost use Rattle.c_places.specs.Starts.{ArePlaces, piece_start};
 
 use c_lexer::cut_once;
-use cpp_lines::shown_once;
 
-/// The tokens and the items of a text begin at only one list of places. Does nothing.
+/// The tokens of a text begin at only one list of places. Does nothing.
 pub fn places_are_one()
     ensures { (text : List ℕ) (one other : Starts) → ArePlaces text one → ArePlaces text other → one ≡ other }
 {
     cut_once();
-    shown_once();
 }
 
 /// Each token of a text has its place under its id, and begins within the text. Does nothing.

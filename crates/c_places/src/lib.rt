@@ -1,9 +1,9 @@
-//! Finds where the tokens and the items of a C text begin.
+//! Finds where the tokens of a C text begin.
 //!
-//! - [`places_in`] returns the [`TextPlaces`] of a text: the offset of each token, by its id, and of each item.
+//! - [`places_in`] returns the [`TextPlaces`] of a text: the offset of each token, by its id.
 //! - [`places_are_one`] and [`tokens_are_placed`] are laws: their contracts hold, and calling them does nothing.
 //!
-//! In the text of the two lines `int x;` and `f();` tokens begin at 0, 4, 5, 7, 8, 9 and 10, and items at 0 and 7.
+//! In the text of the two lines `int x;` and `f();` tokens begin at 0, 4, 5, 7, 8, 9 and 10.
 //!
 //! text_places says which line and column an offset has.
 #![tactic(auto)]

@@ -1,22 +1,18 @@
-// Where tokens and items begin.
+// Where tokens begin.
 ghost use Rattle.std.specs.Prelude.{◌≡◌, IfOk};
 ghost use Rattle.c_lexer.specs.Lexes.{Lexes};
-ghost use Rattle.cpp_lines.specs.Shown as shown;
 ghost use Rattle.c_places.specs.Starts as spec;
 
 use c_lexer::{LexFault, Lexed, PieceKind, lex};
 use c_terms::NoMemory;
-use cpp_lines::{ItemSpan, Visible, arms, items};
 use sqlite_items::Items;
 use std::alloc::Global;
 
-/// Where the tokens and the items of a text begin, as offsets of bytes.
+/// Where the tokens of a text begin, as offsets of bytes.
 #[derive(Drop)]
 pub struct TextPlaces {
     /// By the ids of the tokens, which are counted from 0.
     pub tokens: Items<u32>,
-    /// By the numbers of the items.
-    pub items: Items<u32>,
 }
 
 /// Returns the pieces of a text that is short enough. A text that is too long is refused as if out of memory.
@@ -30,8 +26,8 @@ fn cut(alloc: Global, text: &[u8]) -> Result<Lexed, NoMemory>
     }
 }
 
-fn is_word(kind: PieceKind) -> bool
-    ensures { result ≡ shown.is_word kind }
+fn is_token(kind: PieceKind) -> bool
+    ensures { result ≡ spec.is_token kind }
 {
     match kind {
         PieceKind::Word(_, _) => true,
@@ -48,47 +44,19 @@ fn token_starts(alloc: Global, lexed: &Lexed) -> Result<Items<u32>, NoMemory>
     let mut starts = Items::new(alloc);
     for i in 0..lexed.count() {
         let piece = lexed.piece(i);
-        if is_word(piece.kind) {
+        if is_token(piece.kind) {
             starts.push(piece.start)?;
         }
     }
     Ok(starts)
 }
 
-/// Returns where an item begins.
-fn item_start(visible: &Visible, span: ItemSpan) -> u32
-    ensures { result ≡ spec.item_start visible.now.pieces visible.now.shown span }
-{
-    let shown = visible.shown();
-    let first = span.first as usize;
-    if first < shown.len() {
-        let piece = visible.lexed().piece(shown[first] as usize);
-        piece.start
-    } else {
-        0
-    }
-}
-
-/// Returns where the items begin.
-fn item_starts(alloc: Global, visible: &Visible) -> Result<Items<u32>, NoMemory>
-    ensures { IfOk result (λ starts. starts ≡ spec.item_starts visible.now.pieces visible.now.shown) }
-{
-    let spans = items(alloc, visible)?;
-    let mut starts = Items::new(alloc);
-    for span in &spans {
-        starts.push(item_start(visible, *span))?;
-    }
-    Ok(starts)
-}
-
-/// Returns where the tokens and the items of a text begin. Linear in the text. Fails only when out of memory, and for a text of
-/// more than 16,777,216 bytes.
+/// Returns where the tokens of a text begin. Linear in the text. Fails only when out of memory, and for a text of more than
+/// 16,777,216 bytes.
 pub fn places_in(alloc: Global, text: &[u8]) -> Result<TextPlaces, NoMemory>
     ensures places { IfOk result (λ places. spec.ArePlaces text.now places) }
 {
     let lexed = cut(alloc, text)?;
     let tokens = token_starts(alloc, &lexed)?;
-    let visible = arms(alloc, lexed)?;
-    let items = item_starts(alloc, &visible)?;
-    Ok(TextPlaces { tokens, items })
+    Ok(TextPlaces { tokens })
 }

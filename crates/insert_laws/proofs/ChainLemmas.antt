@@ -13,7 +13,7 @@ use Rattle.smpl_patch.specs.Bodies.{body}
 use Rattle.smpl_patch.specs.Shapes.{patterns_body}
 use Rattle.ctl_translate.specs.Rules.{first_unbound}
 use Rattle.rule_envs.specs.declared.file_env.FileEnv.{FileEnv}
-use Rattle.rule_chain.specs.RuleMatches.Turns.{rule_found, file_envs_after}
+use Rattle.rule_chain.specs.RuleMatches.Matching.{rule_found, file_envs_after}
 use Rattle.rule_chain.specs.RuleEdits.Kinds.{kinds_of}
 use Rattle.rule_chain.specs.RuleEdits.Pages.{is_edited}
 use Rattle.rule_chain.specs.RuleRun.States.{Chained, ReadsAgain, first_state}
@@ -69,7 +69,8 @@ record IsTermed (metas : Var → Bool) (s : Chained) : Type 0 where
 no_values : (metas : Var → Bool) → CarriesTerms metas (record { env = []; rules = [] })
 no_values metas x m v e = absurd (cc)
 
-first_termed : (metas : Var → Bool) (pieces : List TextPiece) (items : List Item) → Reads pieces items → IsTermed metas (first_state pieces items)
+first_termed : (metas : Var → Bool) (pieces : List TextPiece) (items : List Item) (reads : Reads pieces items)
+    → IsTermed metas (first_state pieces reads.0 items)
 first_termed metas pieces items r = record {
   reads = r;
   carried = All-cons (CarriesTerms metas) (record { env = []; rules = [] }) [] (no_values metas) (All-nil (CarriesTerms metas));

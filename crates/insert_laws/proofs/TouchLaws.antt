@@ -3,4 +3,4 @@ pub mod EnvLemmas
 pub mod ChoiceLemmas
 pub mod TreeLemmas
 pub mod ForestLemmas
-pub mod TurnLemmas
+pub mod MatchingLemmas

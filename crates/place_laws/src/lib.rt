@@ -13,8 +13,8 @@ ghost use Rattle.smpl_places.specs.FaultPlaces.{FaultAt};
 
 use smpl_lexer::patch_is_read_once;
 
-/// The first fault of some bytes that has no byte is that they are too many: a rule with a fault, and the rule of a variable
-/// with one, are rules of the text. Does nothing.
+/// If the first fault of a patch is at no byte, the patch is too long. A fault of a rule or of a variable is at a rule of the
+/// text, and that rule is there. Does nothing.
 pub fn each_fault_has_a_place()
     ensures { (bytes : List ℕ) (fault : Fault) (at : Option ℕ) → IsFirstFault bytes fault → FaultAt bytes fault at →
         at ≡ None → fault ≡ patch_fault.PatchTooLong }

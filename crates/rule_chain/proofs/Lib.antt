@@ -3,6 +3,7 @@ pub mod StopLemmas
 pub mod StepLemmas
 pub mod CutLemmas
 pub mod OnceLemmas
+pub mod NoteLemmas
 pub mod RuleWitnesses
 pub mod RuleEdits
 pub mod FileWitnesses

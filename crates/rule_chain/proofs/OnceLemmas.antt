@@ -7,6 +7,7 @@ use Rattle.c_lexer.specs.Lexes.{Cuts, Lexes}
 use Rattle.c_lexer.specs.Ids.{ids_of}
 use Rattle.c_lexer.specs.Pieces.{text_of}
 use Rattle.cpp_lines.specs.declared.reading.Item.{Item}
+use Rattle.cpp_lines.specs.Shown.{AreShown}
 use Rattle.c_file.specs.Reads.{Reads}
 use Rattle.cfg_build.specs.declared.cfg_graph.label.NodeKind.{NodeKind}
 use Rattle.smpl_patch.specs.declared.rule.Rule.{Rule}
@@ -21,7 +22,8 @@ use Rattle.rule_chain.specs.RuleEdits.Pages.{is_edited}
 use Rattle.rule_chain.specs.RuleEdits.Faults.{AreFine, IsEditFault}
 use Rattle.rule_chain.specs.RuleEdits.Faults.IsEditFault.{conflict, too_long}
 use Rattle.rule_chain.specs.declared.rule_run.fault.FileFault.{FileFault}
-use Rattle.rule_chain.specs.RuleRun.States.{Chained, ReadsAgain, first_state, notes_from}
+use Rattle.rule_chain.specs.RuleRun.Notes.{notes_on}
+use Rattle.rule_chain.specs.RuleRun.States.{Chained, ReadsAgain, first_state}
 use Rattle.rule_chain.specs.RuleRun.OneRule.{edit_fault, MayRead, AreFew, RuleEdits, IsFault, Leads, state_after, is_too_much, file_witnesses}
 use Rattle.rule_chain.specs.RuleRun.OneRule.IsFault.{too_many_witnesses, too_many_environments, in_edits}
 use Rattle.rule_chain.specs.Chain.{Outcome, Refused, Runs, Chain, is_followed}
@@ -79,6 +81,9 @@ HaveOneCut = (a b : List TextPiece) → Cuts a → Cuts b → text_of a ≡ text
 abbrev pub HaveOneReading : Type 0
 HaveOneReading = (pieces : List TextPiece) (a b : List Item) → Reads pieces a → Reads pieces b → a ≡ b
 
+abbrev pub HaveOneShown : Type 0
+HaveOneShown = (pieces : List TextPiece) (a b : List ℕ) → AreShown pieces a → AreShown pieces b → a ≡ b
+
 module _ (one_list : HaveOneList) (defined : List (List ℕ)) (number : ℕ) (rule : Rule) (s : Chained) where
   edits_once : (a b : List Edit) → RuleEdits defined number rule s a → RuleEdits defined number rule s b → a ≡ b
   edits_once a b = one_list (file_witnesses defined number rule s) rule s.items (kinds_of s.items) s.pieces a b
@@ -109,19 +114,27 @@ module _ (one_list : HaveOneList) (defined : List (List ℕ)) (number : ℕ) (ru
 
 -- ---- the text read again
 
-module _ (one_cut : HaveOneCut) (one_reading : HaveOneReading) where
+module _ (one_reading : HaveOneReading) (one_shown : HaveOneShown) (p q : List TextPiece) (e : p ≡ q) (a b : List Item)
+    (one : Reads p a) (two : Reads q b) where
+  one_items : a ≡ b
+  one_items = one_reading q a b (subst (λ (x : List TextPiece). Reads x a) e one) two
+
+  one_sight : one.0 ≡ two.0
+  one_sight = one_shown q one.0 two.0 (subst (λ (x : List TextPiece). AreShown x one.0) e one.1) two.1
+
+module _ (one_cut : HaveOneCut) (one_reading : HaveOneReading) (one_shown : HaveOneShown) where
   again_once : (s a b : Chained) → ReadsAgain s a → ReadsAgain s b → a ≡ b
   again_once s a b one two =
       let pieces : one.pieces ≡ two.pieces = one_cut one.pieces two.pieces one.cut.cuts two.cut.cuts
       (one.cut.text ∙ sym two.cut.text) (one.cut.ids ∙ sym two.cut.ids) in
-      let items : one.items ≡ two.items =
-      one_reading two.pieces one.items two.items (subst (λ (p : List TextPiece). Reads p one.items) pieces one.reads) two.reads in
+      let items = one_items one_reading one_shown one.pieces two.pieces pieces one.items two.items one.reads two.reads in
+      let shown = one_sight one_reading one_shown one.pieces two.pieces pieces one.items two.items one.reads two.reads in
       one.is
       ∙ (λ i. record s {
         reading = suc s.reading;
         pieces = pieces i;
         items = items i;
-        skipped = s.skipped ++ notes_from (suc s.reading) 0 (items i);
+        skipped = s.skipped ++ notes_on s.loaded (suc s.reading) (record { pieces = pieces i; shown = shown i; items = items i });
       })
       ∙ sym two.is
 
@@ -131,14 +144,14 @@ module _ (one_cut : HaveOneCut) (one_reading : HaveOneReading) where
 
 -- ---- the whole chain
 
-module _ (one_list : HaveOneList) (one_cut : HaveOneCut) (one_reading : HaveOneReading) (defined : List (List ℕ)) where
+module _ (one_list : HaveOneList) (one_cut : HaveOneCut) (one_reading : HaveOneReading) (one_shown : HaveOneShown) (defined : List (List ℕ)) where
   leads_once : (number : ℕ) (rule : Rule) (followed : Bool) (s a b : Chained)
       → Leads defined number rule followed s a → Leads defined number rule followed s b → a ≡ b
   leads_once number rule followed s a b one two =
       let e : one.edits ≡ two.edits = edits_once one_list defined number rule s one.edits two.edits one.are two.are in
       let reads : MayRead (is_edited two.edits && followed) (state_after defined number rule s two.edits) a =
       subst (λ (x : List Edit). MayRead (is_edited x && followed) (state_after defined number rule s x) a) e one.reads in
-      may_once one_cut one_reading (is_edited two.edits && followed) (state_after defined number rule s two.edits) a b reads two.reads
+      may_once one_cut one_reading one_shown (is_edited two.edits && followed) (state_after defined number rule s two.edits) a b reads two.reads
 
   runs_once : (number : ℕ) (rules : List Rule) (s : Chained) (a b : Outcome) → Runs defined number rules s a → Runs defined number rules s b → a ≡ b
   runs_once number [] s a b one two = one ∙ sym two
@@ -156,9 +169,10 @@ module _ (one_list : HaveOneList) (one_cut : HaveOneCut) (one_reading : HaveOneR
       → (rules : List Rule) (bytes : List ℕ) (end other : Outcome) → Chain rules defined bytes end → Chain rules defined bytes other → end ≡ other
   chain_once lexes_once rules bytes end other one two =
       let pieces : one.pieces ≡ two.pieces = lexes_once bytes one.pieces two.pieces one.cut two.cut in
-      let items : one.items ≡ two.items =
-      one_reading two.pieces one.items two.items (subst (λ (p : List TextPiece). Reads p one.items) pieces one.reads) two.reads in
-      let runs : Runs defined 0 rules (first_state two.pieces two.items) end =
-      subst (λ (x : List Item). Runs defined 0 rules (first_state two.pieces x) end) items
-      (subst (λ (p : List TextPiece). Runs defined 0 rules (first_state p one.items) end) pieces one.runs) in
-      runs_once 0 rules (first_state two.pieces two.items) end other runs two.runs
+      let items = one_items one_reading one_shown one.pieces two.pieces pieces one.items two.items one.reads two.reads in
+      let shown = one_sight one_reading one_shown one.pieces two.pieces pieces one.items two.items one.reads two.reads in
+      let start : first_state one.pieces one.reads.0 one.items ≡ first_state two.pieces two.reads.0 two.items =
+      (λ i. first_state (pieces i) (shown i) (items i)) in
+      let runs : Runs defined 0 rules (first_state two.pieces two.reads.0 two.items) end =
+      subst (λ (x : Chained). Runs defined 0 rules x end) start one.runs in
+      runs_once 0 rules (first_state two.pieces two.reads.0 two.items) end other runs two.runs

@@ -1,3 +1,3 @@
 -- Lemmas of rule_matches.
-pub mod TurnLemmas
+pub mod MatchingLemmas
 pub mod Examples

@@ -1,3 +1,4 @@
 -- Lemmas of rule_run.
+pub mod Examples
 pub mod HadLemmas
-pub mod WorkLemmas
+pub mod OutcomeLemmas

@@ -16,7 +16,7 @@ use Rattle.rule_chain.specs.declared.rule_run.fault.FileFault.{FileFault}
 use Rattle.rule_chain.specs.declared.rule_run.state.FileState.{FileState}
 use Rattle.rule_chain.specs.RuleRun.States.{Chained}
 use Rattle.rule_chain.specs.RuleRun.OneRule.{MayRead, IsFault, Leads, state_after}
-use Rattle.rule_chain.specs.RuleRun.Worked.{IsAtReading, IsOutcome}
+use Rattle.rule_chain.specs.RuleRun.Outcomes.{IsAtReading, IsOutcome}
 use Rattle.rule_chain.specs.Chain.{Refused, Runs, is_followed}
 use Rattle.rule_chain.specs.Stops.{page_left, LeadsOn}
 
@@ -67,6 +67,7 @@ module _ (defined : List (List ℕ)) (rules : List Rule) (number : ℕ) (rule : 
     pieces = refl;
     items = refl;
     reading = refl;
+    loaded = refl;
     skipped = refl;
     back = λ after end may runs.
         let rest = drop (number + 1) rules in

@@ -13,9 +13,10 @@ use Rattle.rule_chain.specs.declared.rule_run.fault.FileFault.{FileFault}
 use Rattle.rule_chain.specs.declared.rule_run.fault.FileFault.TheVariants.{NoMemory}
 use Rattle.rule_chain.specs.declared.rule_run.state.FileState.{FileState}
 use Rattle.rule_chain.specs.declared.rule_run.state.SkipNote.{SkipNote}
-use Rattle.rule_chain.specs.RuleRun.States.{Chained, IsCut, ReadsAgain, notes_from, first_state}
+use Rattle.rule_chain.specs.RuleRun.Notes.{notes_on}
+use Rattle.rule_chain.specs.RuleRun.States.{Chained, IsCut, ReadsAgain, first_state}
 use Rattle.rule_chain.specs.RuleRun.OneRule.{MayRead}
-use Rattle.rule_chain.specs.RuleRun.Worked.{AreFindingsOf, IsAtReading}
+use Rattle.rule_chain.specs.RuleRun.Outcomes.{AreFindingsOf, IsAtReading}
 use Rattle.rule_chain.specs.declared.state.Applied.{Applied}
 use Rattle.rule_chain.specs.declared.state.Reached.{Reached}
 use Rattle.rule_chain.specs.declared.state.Step.{Step}
@@ -35,15 +36,16 @@ pub none_left : (defined : List (List ℕ)) (rules : List Rule) (done : ℕ) (s 
 none_left defined rules done s all =
     subst (λ (x : List Rule). Runs defined done x s (Done s)) (sym (drop_of_length-le rules all)) refl
 
-module _ (findings : FileState) (text : NewText) (reading : ℕ) (skipped : List SkipNote) (file : FileItems) (s : Chained)
-    (left : IsLeft findings text reading skipped s) (cut : IsCut (page_in text) file.pieces) (reads : Reads file.pieces file.items) where
+module _ (findings : FileState) (text : NewText) (reading loaded : ℕ) (skipped : List SkipNote) (file : FileItems) (s : Chained)
+    (left : IsLeft findings text reading loaded skipped s) (cut : IsCut (page_in text) file.pieces) (reads : Reads file.pieces file.items)
+    (shown : reads.0 ≡ file.shown) where
   -- the text is read again
   read_state : Chained
   read_state = record s {
     reading = suc s.reading;
     pieces = file.pieces;
     items = file.items;
-    skipped = s.skipped ++ notes_from (suc s.reading) 0 file.items;
+    skipped = s.skipped ++ notes_on s.loaded (suc s.reading) (record { pieces = file.pieces; shown = reads.0; items = file.items });
   }
 
   reads_again : ReadsAgain s read_state
@@ -64,13 +66,14 @@ module _ (findings : FileState) (text : NewText) (reading : ℕ) (skipped : List
     items = refl;
   }
 
-  pub read_on : (rules : List Rule) (done : ℕ) (now : List SkipNote) → done < length rules → now ≡ skipped ++ notes_from (reading + 1) 0 file.items
+  pub read_on : (rules : List Rule) (done : ℕ) (now : List SkipNote) → done < length rules → now ≡ skipped ++ notes_on loaded (reading + 1) file
       → GoesOn rules done s (On (record {
         bytes = text.bytes;
         file = file;
         next = text.next;
         reading = reading + 1;
         findings = findings;
+        loaded = loaded;
         skipped = now;
         done = done;
       }))
@@ -89,7 +92,9 @@ module _ (findings : FileState) (text : NewText) (reading : ℕ) (skipped : List
               at = at_reading;
               bytes = sym (ap (λ (p : Page). p.bytes) left.page);
               reading = one;
-              skipped = (λ i. left.skipped_is i ++ notes_from (one i) 0 file.items) ∙ sym notes;
+              loaded = left.loaded_is;
+              skipped = (λ i. left.skipped_is i
+                  ++ notes_on (left.loaded_is i) (one i) (record { pieces = file.pieces; shown = shown i; items = file.items })) ∙ sym notes;
             },
             refl,
           ),
@@ -124,11 +129,12 @@ module _ (defined : List (List ℕ)) (rules : List Rule) (from done : ℕ) (s : 
   )
 
   pub left_is : (r : Reached) (text : NewText) → IsAt r s → (on : LeadsOn defined rules from s done findings (Some text))
-      → IsLeft findings text r.reading r.skipped on.state
+      → IsLeft findings text r.reading r.loaded r.skipped on.state
   left_is r text at on = record {
     findings_are = on.findings_are;
     page = on.page;
     reading_is = on.reading ∙ at.reading;
+    loaded_is = on.loaded ∙ at.loaded;
     skipped_is = on.skipped ∙ at.skipped;
   }
 
@@ -185,16 +191,16 @@ module _ (defined : List (List ℕ)) (rules : List Rule) where
 
 module _ (rules : List Rule) (defined : List (List ℕ)) (bytes : List ℕ) (r : Reached) (cut : Lexes bytes r.file.pieces)
     (reads : Reads r.file.pieces r.file.items)
-    (at : IsAt r (first_state r.file.pieces r.file.items)) where
+    (at : IsAt r (first_state r.file.pieces reads.0 r.file.items)) where
   pub chain_done : (applied : Applied)
       → ((s : Chained) → IsAt r s → (last : Chained) × (Runs defined 0 rules s (Done last) × AnswersState applied last))
       → (last : Chained) × (Chain rules defined bytes (Done last) × AnswersState applied last)
   chain_done applied done =
-      let end = done (first_state r.file.pieces r.file.items) at in
+      let end = done (first_state r.file.pieces reads.0 r.file.items) at in
       (end.0, (record { pieces = r.file.pieces; cut = cut; items = r.file.items; reads = reads; runs = end.1.0 }, end.1.1))
 
   pub chain_refused : (fault : FileFault) → (fault ≡ NoMemory) ⊎ ((s : Chained) → IsAt r s → Runs defined 0 rules s (Refused fault))
       → (fault ≡ NoMemory) ⊎ Chain rules defined bytes (Refused fault)
   chain_refused fault (inl none) = inl none
   chain_refused fault (inr is) =
-      inr (record { pieces = r.file.pieces; cut = cut; items = r.file.items; reads = reads; runs = is (first_state r.file.pieces r.file.items) at })
+      inr (record { pieces = r.file.pieces; cut = cut; items = r.file.items; reads = reads; runs = is (first_state r.file.pieces reads.0 r.file.items) at })

@@ -8,7 +8,7 @@ use Rattle.rule_chain.specs.declared.rule_run.fault.FileFault.{FileFault}
 use Rattle.rule_chain.specs.declared.rule_run.fault.FileFault.TheVariants.{NoMemory}
 use Rattle.rule_chain.specs.declared.rule_run.state.FileState.{FileState}
 use Rattle.rule_chain.specs.RuleRun.States.{Chained}
-use Rattle.rule_chain.specs.RuleRun.Worked.{AreFindingsOf, IsAtReading}
+use Rattle.rule_chain.specs.RuleRun.Outcomes.{AreFindingsOf, IsAtReading}
 use Rattle.rule_chain.specs.Chain.{Outcome, Refused, Runs}
 use Rattle.rule_chain.specs.Stops.{page_left, LeadsOn}
 
@@ -22,6 +22,7 @@ module _ (defined : List (List ℕ)) (rules : List Rule) where
     pieces = refl;
     items = refl;
     reading = refl;
+    loaded = refl;
     skipped = refl;
     back = λ next end may runs. subst (λ (x : Chained). Runs defined from (drop from rules) x end) may runs;
   }
@@ -49,6 +50,7 @@ module _ (defined : List (List ℕ)) (rules : List Rule) where
     pieces = more.pieces ∙ on.pieces;
     items = more.items ∙ on.items;
     reading = more.reading ∙ on.reading;
+    loaded = more.loaded ∙ on.loaded;
     skipped = more.skipped ∙ on.skipped;
     back = λ next end may runs. back_to from mid s findings on end (more.back next end may runs);
   }

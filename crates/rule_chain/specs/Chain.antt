@@ -33,4 +33,4 @@ pub record Chain (rules : List Rule) (defined : List (List â„•)) (bytes : List â
   pub cut : Lexes bytes pieces
   pub items : List Item
   pub reads : Reads pieces items
-  pub runs : Runs defined 0 rules (first_state pieces items) end
+  pub runs : Runs defined 0 rules (first_state pieces reads.0 items) end

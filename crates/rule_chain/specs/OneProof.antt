@@ -28,7 +28,7 @@ use Rattle.ctl_formula.specs.Plain.{fits}
 use Rattle.rule_envs.specs.declared.rule_formulas.prepared.PreparedRule.{PreparedRule}
 use Rattle.rule_envs.specs.Inherited.{inherited_of}
 use Rattle.rule_envs.specs.RuleFormulas.Prepared.{IsPrepared, ArePrepared}
-use Rattle.rule_chain.specs.RuleMatches.Turns.{AreApart}
+use Rattle.rule_chain.specs.RuleMatches.Matching.{AreApart}
 use Rattle.rule_chain.specs.Required.{MayRun}
 
 -- ---- formulas are stored as lists of nodes

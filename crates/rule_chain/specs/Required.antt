@@ -6,7 +6,7 @@ use Rattle.ctl_fixpoint.specs.CtlHolds.BoundLaw.{SureStand}
 use Rattle.edit_marks.specs.Edits.{HaveEvenBlocks}
 use Rattle.rule_envs.specs.declared.rule_formulas.prepared.PreparedRule.{PreparedRule}
 use Rattle.rule_chain.specs.RuleWitnesses.Jobs.{BindsExports}
-use Rattle.rule_chain.specs.RuleMatches.Turns.{AreApart}
+use Rattle.rule_chain.specs.RuleMatches.Matching.{AreApart}
 
 -- The sure variables of its patterns occur in them, its formula binds what it exports, each exported variable occurs once and
 -- none is inherited, and each line of its plus code has as many gaps as tokens.

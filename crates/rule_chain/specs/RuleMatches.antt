@@ -1,3 +1,3 @@
 -- Definitions of rule_matches.
 -- What the contract of `match_rule` depends on.
-pub mod Turns
+pub mod Matching

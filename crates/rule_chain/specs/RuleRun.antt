@@ -1,5 +1,6 @@
 -- Definitions of rule_run.
 -- What the contract of `run_rule` depends on, in reading order; rule_matches and rule_edits come first.
+pub mod Notes
 pub mod States
 pub mod OneRule
-pub mod Worked
+pub mod Outcomes

@@ -7,7 +7,7 @@ use Rattle.rule_chain.specs.declared.rule_run.state.FileState.{FileState}
 use Rattle.rule_chain.specs.declared.rule_run.state.SkipNote.{SkipNote}
 use Rattle.rule_chain.specs.RuleRun.States.{Chained}
 use Rattle.rule_chain.specs.RuleRun.OneRule.{MayRead}
-use Rattle.rule_chain.specs.RuleRun.Worked.{AreFindingsOf, IsAtReading}
+use Rattle.rule_chain.specs.RuleRun.Outcomes.{AreFindingsOf, IsAtReading}
 use Rattle.rule_chain.specs.declared.state.Reached.{Reached}
 use Rattle.rule_chain.specs.declared.state.Step.{Step}
 use Rattle.rule_chain.specs.declared.state.Step.TheVariants.{Ended, On}
@@ -29,6 +29,7 @@ pub record LeadsOn (defined : List (List ℕ)) (rules : List Rule) (from : ℕ) 
   pub pieces : state.pieces ≡ s.pieces
   pub items : state.items ≡ s.items
   pub reading : state.reading ≡ s.reading
+  pub loaded : state.loaded ≡ s.loaded
   pub skipped : state.skipped ≡ s.skipped
   pub back : (next : Chained) (end : Outcome) → MayRead (is_some text && is_followed (drop done rules)) state next
       → Runs defined done (drop done rules) next end → Runs defined from (drop from rules) s end
@@ -39,13 +40,15 @@ pub record IsAt (r : Reached) (s : Chained) : Type 0 where
   pub at : IsAtReading r.file r.next s
   pub bytes : r.bytes.items ≡ s.page.bytes
   pub reading : s.reading ≡ r.reading
+  pub loaded : s.loaded ≡ r.loaded
   pub skipped : s.skipped ≡ r.skipped
 
 -- what is left of a state after a rule that edits
-pub record IsLeft (findings : FileState) (text : NewText) (reading : ℕ) (skipped : List SkipNote) (s : Chained) : Type 0 where
+pub record IsLeft (findings : FileState) (text : NewText) (reading loaded : ℕ) (skipped : List SkipNote) (s : Chained) : Type 0 where
   pub findings_are : AreFindingsOf findings s
   pub page : s.page ≡ page_in text
   pub reading_is : s.reading ≡ reading
+  pub loaded_is : s.loaded ≡ loaded
   pub skipped_is : s.skipped ≡ skipped
 
 -- no rule is left and the state is returned, or the text is read again
@@ -54,9 +57,9 @@ GoesOn rules done s (Ended applied) = (length rules ≤ done) × AnswersState ap
 GoesOn rules done s (On r) = (next : Chained) × (MayRead (is_followed (drop done rules)) s next × (IsAt r next × (r.done ≡ done)))
 
 -- what follows after this many rules of this count, whatever the rules are
-abbrev pub ComesOf : ℕ → FileState → NewText → ℕ → List SkipNote → ℕ → Step → Type 0
-ComesOf count findings text reading skipped done st =
-    (rules : List Rule) (s : Chained) → length rules ≡ count → IsLeft findings text reading skipped s → GoesOn rules done s st
+abbrev pub ComesOf : (count : ℕ) → FileState → NewText → (reading loaded : ℕ) → List SkipNote → (done : ℕ) → Step → Type 0
+ComesOf count findings text reading loaded skipped done st =
+    (rules : List Rule) (s : Chained) → length rules ≡ count → IsLeft findings text reading loaded skipped s → GoesOn rules done s st
 
 -- The rules from a number on lead from a state to an end, which is returned; or they lead to the point that is reached, and
 -- whatever the remaining rules lead to from there, all of them lead to.

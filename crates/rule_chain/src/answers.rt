@@ -1,7 +1,7 @@
 // The result for a file, made from the last state.
 ghost use Rattle.std.specs.Prelude.{◌≡◌, IfOk};
 ghost use Rattle.rule_chain.specs.RuleRun.States.{Chained};
-ghost use Rattle.rule_chain.specs.RuleRun.Worked.{AreFindingsOf};
+ghost use Rattle.rule_chain.specs.RuleRun.Outcomes.{AreFindingsOf};
 ghost use Rattle.rule_chain.specs.Results.{AnswersState};
 
 use crate::rule_run::{FileState, SkipNote};

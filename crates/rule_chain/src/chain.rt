@@ -10,14 +10,14 @@ ghost use Rattle.rule_chain.specs.Results.{IsResult, AnswersState};
 ghost use Rattle.rule_chain.specs.Stops.{IsAt, ComesOf, Steps, IsFurther};
 
 use crate::answers::answer;
+use crate::notes::with_notes;
 use crate::patch_rules::PatchRules;
 use crate::reading::Reading;
-use crate::readings::{cut, read_again, with_notes};
+use crate::readings::{cut, read, read_again};
 use crate::rule_edits::NewText;
 use crate::rule_run::{FileFault, FileState, SkipNote};
 use crate::rules::{ReadingEnd, over_reading};
 use crate::state::{Applied, Reached, Step};
-use c_file::read_file;
 use c_terms::NoMemory;
 use par_match::{Gate, Workers};
 use rule_envs::first_file_envs;
@@ -32,14 +32,15 @@ const MOST_IDS: u64 = 4_611_686_018_427_387_904;
 fn begin(alloc: Global, bytes: Vec<u8>) -> Result<Reached, NoMemory>
     ensures cut { IfOk result (λ r. Lexes bytes.items r.file.pieces) }
     ensures reads { IfOk result (λ r. Reads r.file.pieces r.file.items) }
-    ensures at { IfOk result (λ r. IsAt r (first_state r.file.pieces r.file.items)) }
+    ensures at { IfOk result (λ r. (reads : Reads r.file.pieces r.file.items) →
+        IsAt r (first_state r.file.pieces reads.0 r.file.items)) }
     ensures done { IfOk result (λ r. r.done ≡ 0) }
     ensures reading { IfOk result (λ r. r.reading ≡ 0) }
 {
     let lexed = cut(alloc, bytes.as_slice())?;
     let next = lexed.token_count() as u64;
-    let file = read_file(alloc, lexed)?;
-    let skipped = with_notes(Items::new(alloc), 0, file.items())?;
+    let file = read(alloc, lexed)?;
+    let skipped = with_notes(Items::new(alloc), next, 0, &file)?;
     let findings = FileState {
         file_envs: first_file_envs(alloc)?,
         had: Items::new(alloc),
@@ -51,6 +52,7 @@ fn begin(alloc: Global, bytes: Vec<u8>) -> Result<Reached, NoMemory>
         next,
         reading: 0,
         findings,
+        loaded: next,
         skipped,
         done: 0,
     })
@@ -70,11 +72,12 @@ fn go_on(
     alloc: Global,
     count: usize,
     reading: u32,
+    loaded: u64,
     skipped: Items<SkipNote>,
     edited: Edited,
 ) -> Result<Step, NoMemory>
     requires reading { reading + 1 < 2 ^ 32 }
-    ensures comes { IfOk result (ComesOf count edited.findings edited.text reading skipped edited.done) }
+    ensures comes { IfOk result (ComesOf count edited.findings edited.text reading loaded skipped edited.done) }
     ensures further { IfOk result (λ st. (from : ℕ) → from < edited.done → IsFurther from count reading st) }
 {
     let Edited {
@@ -91,13 +94,14 @@ fn go_on(
         ids: _,
         next,
     } = text;
-    let skipped = with_notes(skipped, reading + 1, file.items())?;
+    let skipped = with_notes(skipped, loaded, reading + 1, &file)?;
     Ok(Step::On(Reached {
         bytes,
         file,
         next,
         reading: reading + 1,
         findings,
+        loaded,
         skipped,
         done,
     }))
@@ -126,6 +130,7 @@ fn next_reading<R: Threads + Sync, G: Gate>(
         next,
         reading,
         findings,
+        loaded,
         skipped,
         done,
     } = reached;
@@ -145,7 +150,7 @@ fn next_reading<R: Threads + Sync, G: Gate>(
                 done,
                 text,
             };
-            Ok(go_on(workers.alloc, count, reading, skipped, edited)?)
+            Ok(go_on(workers.alloc, count, reading, loaded, skipped, edited)?)
         }
     }
 }

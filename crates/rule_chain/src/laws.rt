@@ -5,6 +5,7 @@ ghost use Rattle.rule_chain.specs.Chain.{Chain, Outcome};
 
 use c_file::read_once;
 use c_lexer::cut_once;
+use cpp_lines::shown_once;
 use edit_marks::witnesses_have_one_list;
 
 /// The rules over a text have at most one end. Does nothing.
@@ -14,5 +15,6 @@ pub fn chain_has_one_end()
 {
     cut_once();
     read_once();
+    shown_once();
     witnesses_have_one_list();
 }

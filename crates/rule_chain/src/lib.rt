@@ -35,6 +35,7 @@ mod chain;
 mod edit_laws;
 mod file_witnesses;
 mod laws;
+mod notes;
 mod patch_rules;
 mod reading;
 mod readings;

@@ -1,19 +1,17 @@
 // Readings of the text.
-ghost use Rattle.std.specs.Prelude.{◌≡◌, ◌++◌, ◌∷◌, [], IfOk};
+ghost use Rattle.std.specs.Prelude.{◌≡◌, IfOk};
 ghost use Rattle.c_lexer.specs.Pieces.{text_of};
 ghost use Rattle.c_lexer.specs.Lexes.{Lexes, Cuts};
 ghost use Rattle.c_lexer.specs.Ids.{ids_of};
 ghost use Rattle.c_file.specs.Reads.{Reads};
 ghost use Rattle.rule_chain.specs.RuleEdits.Pages.{page_in};
-ghost use Rattle.rule_chain.specs.RuleRun.States.{IsCut, notes_from};
+ghost use Rattle.rule_chain.specs.RuleRun.States.{IsCut};
 
 use crate::rule_edits::NewText;
-use crate::rule_run::SkipNote;
 use c_file::{CFile, read_file};
 use c_lexer::{LexFault, Lexed, lex};
 use c_terms::NoMemory;
-use cpp_lines::Item;
-use sqlite_items::Items;
+use cpp_lines::shown_once;
 use std::alloc::Global;
 
 /// Returns the pieces of a text that is short enough. A text that is too long is refused as if out of memory.
@@ -41,50 +39,25 @@ fn with_ids(alloc: Global, bytes: &[u8], ids: &[u64]) -> Result<Lexed, NoMemory>
     Ok(lexed.renumber(ids))
 }
 
-/// Reads the text that edits have left. Its tokens keep their ids.
-pub fn read_again(alloc: Global, text: &NewText) -> Result<CFile, NoMemory>
-    ensures cut { IfOk result (λ file. IsCut (page_in text.now) file.pieces) }
+/// Reads a text that is cut.
+pub fn read(alloc: Global, lexed: Lexed) -> Result<CFile, NoMemory>
+    ensures pieces { IfOk result (λ file. file.pieces ≡ lexed) }
     ensures reads { IfOk result (λ file. Reads file.pieces file.items) }
+    ensures shown { IfOk result (λ file. (reads : Reads file.pieces file.items) → reads.0 ≡ file.shown) }
 {
-    let lexed = with_ids(alloc, text.bytes.as_slice(), text.ids.as_slice())?;
+    // A law: does nothing. A text shows only these tokens.
+    shown_once();
     let file = read_file(alloc, lexed)?;
     Ok(file)
 }
 
-/// Appends a note on the item with this number if it is skipped.
-fn with_note(
-    skipped: Items<SkipNote>,
-    reading: u32,
-    at: u32,
-    item: &Item,
-) -> Result<Items<SkipNote>, NoMemory>
-    ensures { IfOk result (λ now. now ≡ skipped ++ notes_from reading at (item.now ∷ [])) }
+/// Reads the text that edits have left. Its tokens keep their ids.
+pub fn read_again(alloc: Global, text: &NewText) -> Result<CFile, NoMemory>
+    ensures cut { IfOk result (λ file. IsCut (page_in text.now) file.pieces) }
+    ensures reads { IfOk result (λ file. Reads file.pieces file.items) }
+    ensures shown { IfOk result (λ file. (reads : Reads file.pieces file.items) → reads.0 ≡ file.shown) }
 {
-    let mut skipped = skipped;
-    if let Item::Skipped(_, why) = item {
-        skipped.push(SkipNote {
-            reading,
-            item: at,
-            why: *why,
-        })?;
-    }
-    Ok(skipped)
-}
-
-/// Appends the notes on the items of a reading.
-pub fn with_notes(
-    skipped: Items<SkipNote>,
-    reading: u32,
-    items: &[Item],
-) -> Result<Items<SkipNote>, NoMemory>
-    ensures { IfOk result (λ now. now ≡ skipped ++ notes_from reading 0 items.now) }
-{
-    if items.len() > u32::MAX as usize {
-        return Err(NoMemory);
-    }
-    let mut skipped = skipped;
-    for at in 0..items.len() {
-        skipped = with_note(skipped, reading, at as u32, &items[at])?;
-    }
-    Ok(skipped)
+    let lexed = with_ids(alloc, text.bytes.as_slice(), text.ids.as_slice())?;
+    let file = read(alloc, lexed)?;
+    Ok(file)
 }

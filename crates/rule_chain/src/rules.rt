@@ -1,7 +1,7 @@
 // Runs rules over one reading of the text.
 ghost use Rattle.std.specs.Prelude.{◌≡◌, ◌<◌, ◌≤◌, ◌+◌, ◌⊎◌, true, None, IfOk, IfErr, length, drop, is_some};
 ghost use Rattle.rule_chain.specs.RuleRun.States.{Chained};
-ghost use Rattle.rule_chain.specs.RuleRun.Worked.{AreFindingsOf, IsAtReading};
+ghost use Rattle.rule_chain.specs.RuleRun.Outcomes.{AreFindingsOf, IsAtReading};
 ghost use Rattle.rule_chain.specs.declared.rule_run.fault.FileFault.TheVariants as fault;
 ghost use Rattle.rule_chain.specs.Chain.{Runs, Refused};
 ghost use Rattle.rule_chain.specs.Stops.{LeadsOn};

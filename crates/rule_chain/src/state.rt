@@ -28,6 +28,8 @@ pub struct Reached {
     /// The number of the reading.
     pub reading: u32,
     pub findings: FileState,
+    /// How many tokens the text that was loaded has: their ids are those below.
+    pub loaded: u64,
     pub skipped: Items<SkipNote>,
     /// How many rules are done.
     pub done: usize,

@@ -22,7 +22,7 @@ use Rattle.smpl_file.specs.Exports.{has_var, is_exported, exports_of, taken}
 use Rattle.smpl_file.specs.Patches.{IsRule, AreRules, IsSpelled}
 use Rattle.env_parts.specs.Parts.{is_among}
 use Rattle.rule_envs.specs.Inherited.{inherited_by, inherited_of}
-use Rattle.rule_chain.specs.RuleMatches.Turns.{AreApart}
+use Rattle.rule_chain.specs.RuleMatches.Matching.{AreApart}
 use Rattle.rule_laws.proofs.TestLemmas.{and-left, and-right, either, neither-left, neither-right, not-true}
 
 -- ---- each stands once

@@ -9,7 +9,7 @@ use Rattle.ctl_fixpoint.specs.CtlHolds.Parts.{EachPattern}
 use Rattle.ctl_fixpoint.specs.CtlHolds.BoundLaw.{SureStand}
 use Rattle.edit_marks.specs.Edits.{HaveEvenBlocks}
 use Rattle.rule_envs.specs.Inherited.{inherited_of}
-use Rattle.rule_chain.specs.RuleMatches.Turns.{AreApart}
+use Rattle.rule_chain.specs.RuleMatches.Matching.{AreApart}
 
 pub record IsReady (rule : Rule) : Type 0 where
   -- each pattern of its formula contains its sure variables

@@ -21,7 +21,7 @@ ghost use Rattle.ctl_translate.specs.declared.rule.FormulaFault.TheVariants as f
 ghost use Rattle.edit_marks.specs.Edits.{HaveEvenBlocks};
 ghost use Rattle.rule_envs.specs.Inherited.{inherited_of};
 ghost use Rattle.rule_envs.specs.RuleFormulas.Prepared.{IsPrepareFault};
-ghost use Rattle.rule_chain.specs.RuleMatches.Turns.{AreApart};
+ghost use Rattle.rule_chain.specs.RuleMatches.Matching.{AreApart};
 ghost use Rattle.rule_laws.specs.Ready.{IsReady};
 
 use rule_envs::exported_variables_are_bound;

@@ -41,7 +41,7 @@ dots_part = refl
 dots_in_brackets : starts (word 0 8 (codes "f") ∷ word 0 9 (codes "(") ∷ dots 0 10 ∷ word 0 13 (codes ")") ∷ word 0 14 (codes ";") ∷ []) ≡ 8 ∷ []
 dots_in_brackets = refl
 
--- `if (x) { a; } else b;` is one piece, and `c;` behind it another
+-- `if (x) { a; } else b;` is one piece, and `c;` after it another
 else_goes_on : starts (word 0 8 (codes "if") ∷ word 0 11 (codes "(") ∷ word 0 12 (codes "x") ∷ word 0 13 (codes ")") ∷ word 0 15 (codes "{")
     ∷ word 0 17 (codes "a") ∷ word 0 18 (codes ";") ∷ word 0 20 (codes "}") ∷ word 0 22 (codes "else") ∷ word 0 27 (codes "b")
     ∷ word 0 28 (codes ";") ∷ word 1 32 (codes "c") ∷ word 1 33 (codes ";") ∷ []) ≡ 8 ∷ 32 ∷ []
@@ -51,6 +51,31 @@ else_goes_on = refl
 no_block : starts (word 0 8 (codes "x") ∷ word 0 10 (codes "=") ∷ word 0 12 (codes "{") ∷ word 0 14 (codes "1") ∷ word 0 16 (codes "}")
     ∷ word 0 17 (codes ";") ∷ []) ≡ 8 ∷ []
 no_block = refl
+
+-- `x = (s){ 1 };`, `b;`: a compound literal ends no piece
+compound_literal : starts (word 0 8 (codes "x") ∷ word 0 10 (codes "=") ∷ word 0 12 (codes "(") ∷ word 0 13 (codes "s") ∷ word 0 14 (codes ")")
+    ∷ word 0 15 (codes "{") ∷ word 0 17 (codes "1") ∷ word 0 19 (codes "}") ∷ word 0 20 (codes ";") ∷ word 1 24 (codes "b") ∷ word 1 25 (codes ";") ∷ [])
+    ≡ 8 ∷ 24 ∷ []
+compound_literal = refl
+
+-- `return (s){ 1 };`, `b;`
+literal_is_returned : starts (word 0 8 (codes "return") ∷ word 0 15 (codes "(") ∷ word 0 16 (codes "s") ∷ word 0 17 (codes ")")
+    ∷ word 0 18 (codes "{") ∷ word 0 20 (codes "1") ∷ word 0 22 (codes "}") ∷ word 0 23 (codes ";") ∷ word 1 27 (codes "b") ∷ word 1 28 (codes ";") ∷ [])
+    ≡ 8 ∷ 27 ∷ []
+literal_is_returned = refl
+
+-- `if (x = y) { a; }`, `b;`: in brackets an `=` begins no value
+value_in_brackets : starts (word 0 8 (codes "if") ∷ word 0 11 (codes "(") ∷ word 0 12 (codes "x") ∷ word 0 14 (codes "=") ∷ word 0 16 (codes "y")
+    ∷ word 0 17 (codes ")") ∷ word 0 19 (codes "{") ∷ word 0 21 (codes "a") ∷ word 0 22 (codes ";") ∷ word 0 24 (codes "}")
+    ∷ word 1 28 (codes "b") ∷ word 1 29 (codes ";") ∷ []) ≡ 8 ∷ 28 ∷ []
+value_in_brackets = refl
+
+-- `if (x) y = 1; else if (z) { a; }`, `b;`: at `else` a value has ended
+value_before_else : starts (word 0 8 (codes "if") ∷ word 0 11 (codes "(") ∷ word 0 12 (codes "x") ∷ word 0 13 (codes ")") ∷ word 0 15 (codes "y")
+    ∷ word 0 17 (codes "=") ∷ word 0 19 (codes "1") ∷ word 0 20 (codes ";") ∷ word 0 22 (codes "else") ∷ word 0 27 (codes "if") ∷ word 0 30 (codes "(")
+    ∷ word 0 31 (codes "z") ∷ word 0 32 (codes ")") ∷ word 0 34 (codes "{") ∷ word 0 36 (codes "a") ∷ word 0 37 (codes ";") ∷ word 0 39 (codes "}")
+    ∷ word 1 43 (codes "b") ∷ word 1 44 (codes ";") ∷ []) ≡ 8 ∷ 43 ∷ []
+value_before_else = refl
 
 -- `f() { a; }`, `g() { b; }`
 two_functions : starts (word 0 8 (codes "f") ∷ word 0 9 (codes "(") ∷ word 0 10 (codes ")") ∷ word 0 12 (codes "{") ∷ word 0 14 (codes "a")

@@ -1,7 +1,8 @@
 // The pieces of code that are spelled each by itself.
-ghost use Rattle.std.specs.Prelude.{◌≡◌, ◌+◌, IfOk};
+ghost use Rattle.std.specs.Prelude.{◌≡◌, IfOk};
 ghost use Rattle.smpl_places.specs.Pieces as spec;
 
+use crate::shape::{Shape, empty_shape, is_outside, shape_with};
 use crate::sign::{Sign, is_when, sign_of};
 use c_terms::{NoMemory, Token};
 use smpl_meta::{Placed, is_host};
@@ -20,23 +21,10 @@ pub struct Piece {
 pub enum Spot {
     /// In code.
     Code,
-    /// Directly behind dots or a nest, outside of brackets or in them.
+    /// Directly after dots or a nest, outside of brackets or in them.
     Host,
-    /// In or directly behind a clause in the line with this number.
+    /// In or directly after a clause in the line with this number.
     Clause(u32),
-}
-
-/// What is known of a piece besides its tokens.
-#[derive(Clone, Copy, Debug, PartialEq, Eq)]
-pub struct Shape {
-    /// How many brackets are open.
-    pub depth: u32,
-    /// Whether a `{` here begins a block: the piece has no token, or the last one is `)` or `else`.
-    pub leads: bool,
-    /// Whether the last `{` outside of all brackets begins a block.
-    pub block: bool,
-    /// Whether the piece is complete, unless `else` follows.
-    pub ended: bool,
 }
 
 /// The pieces so far.
@@ -47,104 +35,6 @@ pub struct Parting {
     pub last: Piece,
     pub shape: Shape,
     pub spot: Spot,
-}
-
-/// Returns what is known of a piece without tokens.
-fn empty_shape() -> Shape
-    ensures { result ≡ spec.empty_shape }
-{
-    Shape {
-        depth: 0,
-        leads: true,
-        block: false,
-        ended: false,
-    }
-}
-
-fn is_outside(shape: Shape) -> bool
-    ensures { result ≡ spec.is_outside shape }
-{
-    shape.depth == 0
-}
-
-/// Returns the depth behind an opening bracket, if it can be counted.
-fn deeper(depth: u32) -> Result<u32, NoMemory>
-    ensures { IfOk result (λ next. next ≡ depth + 1) }
-{
-    depth.checked_add(1).ok_or(NoMemory)
-}
-
-/// Whether the last `{` outside of all brackets begins a block, with one more `{`.
-fn block_at(shape: Shape) -> bool
-    ensures { result ≡ spec.block_at shape }
-{
-    if shape.depth == 0 {
-        shape.leads
-    } else {
-        shape.block
-    }
-}
-
-/// Returns what is known with one more token. Fails if more brackets are open than can be counted.
-fn shape_with(shape: Shape, sign: Sign) -> Result<Shape, NoMemory>
-    ensures { IfOk result (λ next. next ≡ spec.shape_with shape sign) }
-{
-    match sign {
-        Sign::Open => Ok(Shape {
-            depth: deeper(shape.depth)?,
-            leads: false,
-            block: shape.block,
-            ended: false,
-        }),
-        Sign::OpenBrace => Ok(Shape {
-            depth: deeper(shape.depth)?,
-            leads: false,
-            block: block_at(shape),
-            ended: false,
-        }),
-        Sign::Close => Ok(Shape {
-            depth: shape.depth.saturating_sub(1),
-            leads: false,
-            block: shape.block,
-            ended: false,
-        }),
-        Sign::CloseParen => Ok(Shape {
-            depth: shape.depth.saturating_sub(1),
-            leads: true,
-            block: shape.block,
-            ended: false,
-        }),
-        Sign::CloseBrace => Ok(Shape {
-            depth: shape.depth.saturating_sub(1),
-            leads: false,
-            block: shape.block,
-            ended: shape.depth == 1 && shape.block,
-        }),
-        Sign::Semicolon => Ok(Shape {
-            depth: shape.depth,
-            leads: false,
-            block: shape.block,
-            ended: shape.depth == 0,
-        }),
-        Sign::Else => Ok(Shape {
-            depth: shape.depth,
-            leads: true,
-            block: shape.block,
-            ended: false,
-        }),
-        Sign::Mark => Ok(Shape {
-            depth: shape.depth,
-            leads: false,
-            block: shape.block,
-            ended: false,
-        }),
-        Sign::Plain => Ok(Shape {
-            depth: shape.depth,
-            leads: false,
-            block: shape.block,
-            ended: false,
-        }),
-    }
 }
 
 /// Ends the piece, unless it is empty.
@@ -191,8 +81,8 @@ fn is_whole(piece: &Piece) -> bool
     }
 }
 
-fn spot_behind(p: &Placed) -> Spot
-    ensures { result ≡ spec.spot_behind p.now }
+fn spot_after(p: &Placed) -> Spot
+    ensures { result ≡ spec.spot_after p.now }
 {
     if is_host(p) { Spot::Host } else { Spot::Code }
 }
@@ -214,7 +104,7 @@ fn with_token(alloc: Global, parting: Parting, p: &Placed) -> Result<Parting, No
         done,
         last: Piece { at, tokens },
         shape: shape_with(shape, sign_of(p))?,
-        spot: spot_behind(p),
+        spot: spot_after(p),
     })
 }
 
@@ -258,7 +148,7 @@ fn with_code(alloc: Global, parting: Parting, p: &Placed) -> Result<Parting, NoM
     ensures { IfOk result (λ next. next ≡ spec.with_code parting p.now) }
 {
     if is_mark(&parting, p) {
-        Ok(with_spot(closed(alloc, parting)?, spot_behind(p)))
+        Ok(with_spot(closed(alloc, parting)?, spot_after(p)))
     } else {
         with_token(alloc, parting, p)
     }
@@ -311,7 +201,7 @@ fn begun(alloc: Global) -> Parting
     }
 }
 
-/// Returns the pieces of the tokens of a rule's patterns: each ends behind a `;` outside of all brackets, behind the `}` of a
+/// Returns the pieces of the tokens of a rule's patterns: each ends after a `;` outside of all brackets, after the `}` of a
 /// block, or at dots, a sign of a nest or a sign of branches; `else` goes on with the piece before it. Clauses with `when` are
 /// left out. Linear.
 pub fn pieces_of(alloc: Global, placed: &[Placed]) -> Result<Items<Piece>, NoMemory>

@@ -22,10 +22,19 @@ pub enum Sign {
     Semicolon,
     /// `else`
     Else,
+    /// `=` or `return`: a value follows.
+    Value,
     /// Dots, or a sign of a nest or of branches.
     Mark,
     /// Any other token.
     Plain,
+}
+
+/// Whether a value follows a token.
+fn begins_value(text: &[u8]) -> bool
+    ensures { result ≡ spec.begins_value text.now }
+{
+    text == b"=".as_slice() || text == b"return".as_slice()
 }
 
 fn sign_of_text(text: &[u8]) -> Sign
@@ -40,6 +49,7 @@ fn sign_of_text(text: &[u8]) -> Sign
         b"}" => Sign::CloseBrace,
         b";" => Sign::Semicolon,
         b"else" => Sign::Else,
+        _ if begins_value(text) => Sign::Value,
         _ => Sign::Plain,
     }
 }

@@ -2,4 +2,4 @@
 pub mod EnvLemmas
 pub mod ForestLemmas
 pub mod BareLemmas
-pub mod TurnLemmas
+pub mod MatchingLemmas

@@ -13,8 +13,8 @@ first_byte = refl
 newline_itself : place_of (codes "@@\n@@\n") 2 ≡ at_place 1 3
 newline_itself = refl
 
-behind_newline : place_of (codes "@@\n@@\n") 3 ≡ at_place 2 1
-behind_newline = refl
+after_newline : place_of (codes "@@\n@@\n") 3 ≡ at_place 2 1
+after_newline = refl
 
 -- the second line of code of a patch
 code_line : place_of (codes "@@\nexpression e;\n@@\n- a(e)\n- b(e);\n") 22 ≡ at_place 4 3
@@ -28,7 +28,7 @@ tab = refl
 end_of_text : place_of (codes "@r@\n") 4 ≡ at_place 2 1
 end_of_text = refl
 
--- behind the end
+-- after the end
 past_end : place_of (codes "@r@\n") 9 ≡ at_place 2 1
 past_end = refl
 

@@ -2,7 +2,7 @@
 use Rattle.std.proofs.Common.{◌≡◌, ℕ, ◌+◌, ◌-◌, ◌<◌, ◌≤◌, ◌∙◌, Bool, true, false, not, cond, List, length, take, get_or, ap, refl, arith}
 use Rattle.std.proofs.lemmas.List.{length-take-le}
 use Rattle.std.proofs.lemmas.List.Sums.{count_by_more_yes, count_by_more_no, count_by-le-length, suffix_len-take_yes, suffix_len-take_no, suffix_len-le-length}
-use Rattle.text_places.specs.Places.{is_newline, newlines, bytes_in_last_line, place_of, place_behind}
+use Rattle.text_places.specs.Places.{is_newline, newlines, bytes_in_last_line, place_of, place_after}
 
 abbrev is_inner : ℕ → Bool
 is_inner byte = not (is_newline byte)
@@ -27,7 +27,7 @@ by_byte text i lt false is =
     let last : bytes_in_last_line (take (i + 1) text) ≡ bytes_in_last_line (take i text) + 1 = omega (arith, one_more, there) in
     λ j. record { line = lines j + 1; column = last j + 1 }
 
-pub place_of-next : (text : List ℕ) (i : ℕ) → i < length text → place_of text (i + 1) ≡ place_behind (place_of text i) (get_or text i 0)
+pub place_of-next : (text : List ℕ) (i : ℕ) → i < length text → place_of text (i + 1) ≡ place_after (place_of text i) (get_or text i 0)
 place_of-next text i lt = by_byte text i lt (is_newline (get_or text i 0)) refl
 
 -- both numbers are at most one more than the offset

@@ -10,20 +10,20 @@ is_newline byte = byte == 10
 abbrev pub newlines : List ℕ → ℕ
 newlines text = count_by is_newline text
 
--- the number of bytes behind the last newline, or of all bytes if there is none
+-- the number of bytes after the last newline, or of all bytes if there is none
 abbrev pub bytes_in_last_line : List ℕ → ℕ
 bytes_in_last_line text = suffix_len (λ byte. not (is_newline byte)) text
 
--- the place directly behind a text: both numbers are from 1
+-- the place directly after a text: both numbers are from 1
 abbrev pub end_of : List ℕ → Place
 end_of text = record { line = newlines text + 1; column = bytes_in_last_line text + 1 }
 
--- the place of the byte with this offset: it is directly behind the bytes before it
+-- the place of the byte with this offset: it is directly after the bytes before it
 abbrev pub place_of : List ℕ → ℕ → Place
 place_of text at = end_of (take at text)
 
--- the place directly behind a byte at a place
-abbrev pub place_behind : Place → ℕ → Place
-place_behind place byte =
+-- the place directly after a byte at a place
+abbrev pub place_after : Place → ℕ → Place
+place_after place byte =
     if is_newline byte then record { line = place.line + 1; column = 1 }
     else record { line = place.line; column = place.column + 1 }

@@ -5,7 +5,7 @@
 //!
 //! In the text of the two lines `int x;` and `f();` the byte 8 is at line 2, column 2.
 //!
-//! A line ends behind its newline. Columns count bytes, so a tab is one, and a letter of two bytes is two. Takes no memory.
+//! A line ends after its newline. Columns count bytes, so a tab is one, and a letter of two bytes is two. Takes no memory.
 #![tactic(auto)]
 
 mod place;

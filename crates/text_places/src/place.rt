@@ -1,6 +1,6 @@
 // A place of a text.
 ghost use Rattle.std.specs.Prelude.{◌≡◌, ◌<◌, ◌+◌, ◌^◌};
-ghost use Rattle.text_places.specs.Places.{place_behind};
+ghost use Rattle.text_places.specs.Places.{place_after};
 
 /// A place of a text: a line and a column, both from 1.
 #[derive(Clone, Copy, Debug, PartialEq, Eq)]
@@ -10,11 +10,11 @@ pub struct Place {
     pub column: u64,
 }
 
-/// Returns the place directly behind a byte, given the byte and its place.
-pub fn place_behind(place: Place, byte: u8) -> Place
+/// Returns the place directly after a byte, given the byte and its place.
+pub fn place_after(place: Place, byte: u8) -> Place
     requires line { place.line + 1 < 2 ^ 64 }
     requires column { place.column + 1 < 2 ^ 64 }
-    ensures { result ≡ place_behind place byte }
+    ensures { result ≡ place_after place byte }
 {
     if byte == b'\n' {
         Place {

@@ -2,13 +2,13 @@
 ghost use Rattle.std.specs.Prelude.{◌≡◌, ◌≤◌, length};
 ghost use Rattle.text_places.specs.Places.{place_of};
 
-use crate::place::{Place, place_behind};
+use crate::place::{Place, place_after};
 use std::marker::Model;
 
 /// The place of a text's first byte.
 const FIRST: Place = Place { line: 1, column: 1 };
 
-/// Returns the place of the byte `end`, given the place of a byte that isn't behind it.
+/// Returns the place of the byte `end`, given the place of a byte that isn't after it.
 fn place_from(text: &[u8], place: Place, start: usize, end: usize) -> Place
     requires order { start ≤ end }
     requires within { end ≤ length text.now }
@@ -17,7 +17,7 @@ fn place_from(text: &[u8], place: Place, start: usize, end: usize) -> Place
 {
     let mut place = place;
     for i in start..end {
-        place = place_behind(place, text[i]);
+        place = place_after(place, text[i]);
     }
     place
 }
@@ -54,7 +54,7 @@ impl<'t> Places<'t> {
         }
     }
 
-    /// Returns the place of the byte with this offset; behind the end of the text it is the place of the end.
+    /// Returns the place of the byte with this offset; after the end of the text it is the place of the end.
     ///
     /// Linear in the bytes since the last call; begins anew if this byte is before that one. So the places of bytes in their
     /// order cost one pass over the text together.
@@ -74,7 +74,7 @@ impl<'t> Places<'t> {
     }
 }
 
-/// Returns the place of the byte with this offset in a text; behind the end of the text it is the place of the end. Linear in
+/// Returns the place of the byte with this offset in a text; after the end of the text it is the place of the end. Linear in
 /// the bytes before it.
 pub fn place_of(text: &[u8], at: usize) -> Place
     ensures place { result ≡ place_of text.now at }

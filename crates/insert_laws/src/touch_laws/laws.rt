@@ -7,7 +7,7 @@ ghost use Rattle.smpl_terms.specs.declared.var.Var.{Var as Variable};
 ghost use Rattle.smpl_patch.specs.declared.rule.Rule.{Rule as PatchRule};
 ghost use Rattle.ctl_translate.specs.Rules.{first_unbound};
 ghost use Rattle.rule_envs.specs.declared.file_env.FileEnv.{FileEnv};
-ghost use Rattle.rule_chain.specs.RuleMatches.Turns.{rule_found, file_envs_after};
+ghost use Rattle.rule_chain.specs.RuleMatches.Matching.{rule_found, file_envs_after};
 ghost use Rattle.rule_laws.specs.Ready.{IsReady};
 ghost use Rattle.edit_marks.specs.EditWalk.Touches.{touches};
 ghost use Rattle.insert_laws.specs.TouchLaws.Metas.{AreMetas, CarriesTerms, ShowsTerms};

@@ -2,7 +2,7 @@
 use Rattle.std.proofs.Common.{◌≡◌, refl, true, false, [], ◌∷◌}
 use Rattle.std.specs.Prelude.{codes}
 use Rattle.smpl_terms.specs.declared.var.Var.{Var}
-use Rattle.rule_chain.specs.RuleMatches.Turns.{AreApart}
+use Rattle.rule_chain.specs.RuleMatches.Matching.{AreApart}
 
 abbrev x : Var
 x = record { rule = 0; name = codes "x" }

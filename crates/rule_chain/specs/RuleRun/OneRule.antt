@@ -11,7 +11,7 @@ use Rattle.rule_chain.specs.declared.rule_edits.fault.EditFault.TheVariants as e
 use Rattle.rule_chain.specs.RuleEdits.Kinds.{kinds_of}
 use Rattle.rule_chain.specs.RuleEdits.Pages.{is_edited, page_after}
 use Rattle.rule_chain.specs.RuleEdits.Faults.{AreFine, IsEditFault}
-use Rattle.rule_chain.specs.RuleMatches.Turns.{rule_found, file_envs_after, has_too_many}
+use Rattle.rule_chain.specs.RuleMatches.Matching.{rule_found, file_envs_after, has_too_many}
 use Rattle.rule_chain.specs.declared.rule_matches.fault.MatchFault.{MatchFault}
 use Rattle.rule_chain.specs.declared.rule_matches.fault.MatchFault.TheVariants as matching
 use Rattle.rule_chain.specs.declared.rule_run.fault.FileFault.{FileFault}

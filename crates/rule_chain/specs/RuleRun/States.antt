@@ -1,16 +1,16 @@
 -- The states of the chain.
-use Rattle.std.specs.Prelude.{ℕ, ◌≡◌, suc, List, [], ◌∷◌, ◌++◌, length}
+use Rattle.std.specs.Prelude.{ℕ, ◌≡◌, suc, List, [], ◌++◌, length}
 use Rattle.c_lexer.specs.Pieces.{TextPiece, text_of}
 use Rattle.c_lexer.specs.Lexes.{Cuts}
 use Rattle.c_lexer.specs.Ids.{ids_of}
 use Rattle.c_file.specs.Reads.{Reads}
 use Rattle.cpp_lines.specs.declared.reading.Item.{Item}
-use Rattle.cpp_lines.specs.declared.reading.Item.TheVariants.{Parsed, Skipped}
 use Rattle.smpl_patch.specs.declared.witness.RuleWitness.{RuleWitness}
 use Rattle.rule_envs.specs.declared.file_env.FileEnv.{FileEnv}
 use Rattle.rule_envs.specs.FileEnvs.{first_file_envs}
 use Rattle.rule_chain.specs.RuleEdits.Pages.{Page}
 use Rattle.rule_chain.specs.declared.rule_run.state.SkipNote.{SkipNote}
+use Rattle.rule_chain.specs.RuleRun.Notes.{notes_on}
 
 -- The state of the chain between two rules, before the first, or after the last. The pieces and the items are those of the last
 -- reading. Terms in environments and witnesses have no ids.
@@ -23,6 +23,8 @@ pub record Chained : Type 0 where
   -- the rules that have had a witness
   pub had : List ℕ
   pub found : List RuleWitness
+  -- how many tokens the text that was loaded has
+  pub loaded : ℕ
   pub skipped : List SkipNote
 
 -- the page is cut into these pieces
@@ -31,18 +33,12 @@ pub record IsCut (page : Page) (pieces : List TextPiece) : Type 0 where
   pub cuts : Cuts pieces
   pub ids : ids_of pieces ≡ page.ids
 
--- notes on the items that a reading skipped, numbered from here
-abbrev pub notes_from : ℕ → ℕ → List Item → List SkipNote
-notes_from reading at [] = []
-notes_from reading at (Parsed t ∷ items) = notes_from reading (suc at) items
-notes_from reading at (Skipped span why ∷ items) = record { reading = reading; item = at; why = why } ∷ notes_from reading (suc at) items
-
 abbrev pub first_page : List TextPiece → Page
 first_page pieces = record { bytes = text_of pieces; ids = ids_of pieces; next = length (ids_of pieces) }
 
--- the chain begins with one empty environment, which carries no rule
-abbrev pub first_state : List TextPiece → List Item → Chained
-first_state pieces items = record {
+-- the chain begins with one empty environment, which carries no rule; `shown` are the numbers of the pieces that are shown
+abbrev pub first_state : List TextPiece → (shown : List ℕ) → List Item → Chained
+first_state pieces shown items = record {
   page = first_page pieces;
   reading = 0;
   pieces = pieces;
@@ -50,7 +46,8 @@ first_state pieces items = record {
   file_envs = first_file_envs;
   had = [];
   found = [];
-  skipped = notes_from 0 0 items;
+  loaded = length (ids_of pieces);
+  skipped = notes_on (length (ids_of pieces)) 0 (record { pieces = pieces; shown = shown; items = items });
 }
 
 -- the text is read again
@@ -63,5 +60,5 @@ pub record ReadsAgain (s next : Chained) : Type 0 where
     reading = suc s.reading;
     pieces = pieces;
     items = items;
-    skipped = s.skipped ++ notes_from (suc s.reading) 0 items;
+    skipped = s.skipped ++ notes_on s.loaded (suc s.reading) (record { pieces = pieces; shown = reads.0; items = items });
   }

@@ -27,7 +27,7 @@ impl From<NoMemory> for MatchFault {
 }
 
 impl From<ItemFault> for MatchFault {
-    ghost use Rattle.rule_chain.specs.RuleMatches.Turns.{job_fault};
+    ghost use Rattle.rule_chain.specs.RuleMatches.Matching.{job_fault};
 
     ghost from_gives = { λ fault e. e ≡ job_fault fault };
 
@@ -40,7 +40,7 @@ impl From<ItemFault> for MatchFault {
 }
 
 impl From<EnvsFault> for MatchFault {
-    ghost use Rattle.rule_chain.specs.RuleMatches.Turns.{envs_fault};
+    ghost use Rattle.rule_chain.specs.RuleMatches.Matching.{envs_fault};
 
     ghost from_gives = { λ fault e. e ≡ envs_fault fault };
 

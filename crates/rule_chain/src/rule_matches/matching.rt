@@ -4,7 +4,7 @@ ghost use Rattle.c_file.specs.ItemGraphs.Made.{IsMade};
 ghost use Rattle.rule_envs.specs.Shares.{bare_file_env};
 ghost use Rattle.rule_envs.specs.FileEnvs.{most_environments};
 ghost use Rattle.rule_chain.specs.RuleWitnesses.Bare.{bare_witness};
-ghost use Rattle.rule_chain.specs.RuleMatches.Turns as spec;
+ghost use Rattle.rule_chain.specs.RuleMatches.Matching as spec;
 ghost use Rattle.rule_chain.specs.declared.rule_matches.fault.MatchFault.TheVariants as fault;
 
 use crate::file_witnesses::witnesses;

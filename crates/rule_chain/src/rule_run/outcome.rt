@@ -3,7 +3,7 @@ ghost use Rattle.std.specs.Prelude.{◌≡◌, ◌⊎◌, ◌++◌, ℕ, IfOk, I
 ghost use Rattle.c_file.specs.ItemGraphs.Made.{IsMade};
 ghost use Rattle.rule_chain.specs.RuleRun.States.{Chained};
 ghost use Rattle.rule_chain.specs.RuleRun.OneRule as spec;
-ghost use Rattle.rule_chain.specs.RuleRun.Worked.{AreFindingsOf, IsAtReading, IsOutcome};
+ghost use Rattle.rule_chain.specs.RuleRun.Outcomes.{AreFindingsOf, IsAtReading, IsOutcome};
 ghost use Rattle.rule_chain.specs.declared.rule_run.fault.FileFault.TheVariants as fault;
 
 use crate::patch_rules::ReadyRule;

@@ -4,12 +4,14 @@ use rule_envs::FileEnv;
 use smpl_patch::RuleWitness;
 use sqlite_items::Items;
 
-/// An item that a reading of the file skipped.
+/// An item that a reading of the file skipped, and why.
 #[derive(Clone, Copy, Debug, PartialEq, Eq)]
 pub struct SkipNote {
     pub reading: u32,
     pub item: u32,
     pub why: Why,
+    /// The id of the first of its visible tokens that was in the text that was loaded, if one was.
+    pub token: Option<u64>,
 }
 
 /// The environments so far, and what was found.

@@ -8,7 +8,7 @@ use Rattle.rule_envs.specs.declared.rule_formulas.prepared.PreparedRule.{Prepare
 use Rattle.rule_envs.specs.RuleFormulas.Prepared.{IsPrepared}
 use Rattle.rule_laws.specs.Ready.{IsReady}
 use Rattle.rule_laws.proofs.ReadyLemmas.{made-stands, made-binds}
-use Rattle.rule_chain.specs.RuleMatches.Turns.{AreApart}
+use Rattle.rule_chain.specs.RuleMatches.Matching.{AreApart}
 use Rattle.rule_chain.specs.Required.{MayRun}
 
 one-may : (r : Rule) (p : PreparedRule) → IsReady r → IsPrepared r p → MayRun r p

@@ -22,7 +22,7 @@ use Rattle.rule_envs.specs.Inherited.{inherited_by}
 use Rattle.iso_expand.specs.Bodies.{expanded_pattern}
 use Rattle.iso_expand.specs.Patches.{IsExpandedRule, AreExpanded}
 use Rattle.rule_laws.specs.IsoFormulas.Formulas.{expanded_formula}
-use Rattle.rule_chain.specs.RuleMatches.Turns.{AreApart}
+use Rattle.rule_chain.specs.RuleMatches.Matching.{AreApart}
 use Rattle.rule_laws.specs.Ready.{IsReady}
 
 -- what holds of each pattern of a formula, and then of the pattern with all forms, holds of each of the formula with all forms

@@ -16,8 +16,8 @@ use Rattle.text_laws.specs.AgainLaws.Reached.{IsBefore}
 use Rattle.text_laws.specs.AgainLaws.Reached.IsBefore.{first, later}
 
 abbrev pub FirstLaw : Type 0
-FirstLaw = (bytes : List ℕ) (pieces : List TextPiece) (items : List Item) → Lexes bytes pieces → Reads pieces items
-    → IsSoundState (first_state pieces items)
+FirstLaw = (bytes : List ℕ) (pieces : List TextPiece) (items : List Item) → Lexes bytes pieces → (reads : Reads pieces items)
+    → IsSoundState (first_state pieces reads.0 items)
 
 abbrev pub StateLaw : Type 0
 StateLaw = (defined : List (List ℕ)) (number : ℕ) (rule : Rule) (followed : Bool) (s next : Chained) → HavePlusCode rule.tokens → IsSoundState s

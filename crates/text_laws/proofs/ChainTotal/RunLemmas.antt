@@ -21,7 +21,8 @@ use Rattle.rule_chain.proofs.RuleEdits.ClashLemmas.{clash_within}
 use Rattle.rule_envs.specs.FileEnvs.{most_environments}
 use Rattle.rule_chain.specs.declared.rule_run.fault.FileFault.{FileFault}
 use Rattle.rule_chain.specs.declared.rule_run.fault.FileFault.TheVariants.{TooManyWitnesses, TooManyEnvironments}
-use Rattle.rule_chain.specs.RuleRun.States.{Chained, IsCut, first_state, notes_from}
+use Rattle.rule_chain.specs.RuleRun.Notes.{notes_on}
+use Rattle.rule_chain.specs.RuleRun.States.{Chained, IsCut, first_state}
 use Rattle.rule_chain.specs.RuleRun.OneRule.{edit_fault, MayRead, file_witnesses, rule_file_envs, is_too_much, RuleEdits, state_after, AreFew, IsFault}
 use Rattle.rule_chain.specs.RuleRun.OneRule.{Leads}
 use Rattle.rule_chain.specs.RuleRun.OneRule.IsFault.{too_many_witnesses, too_many_environments, in_edits}
@@ -35,8 +36,8 @@ use Rattle.text_laws.proofs.ChainTotal.LeastLemmas.{clash_some}
 
 -- what states and texts of rules have
 abbrev pub FirstLaw : Type 0
-FirstLaw = (bytes : List ℕ) (pieces : List TextPiece) (items : List Item) → Lexes bytes pieces → Reads pieces items
-    → IsSoundState (first_state pieces items)
+FirstLaw = (bytes : List ℕ) (pieces : List TextPiece) (items : List Item) → Lexes bytes pieces → (reads : Reads pieces items)
+    → IsSoundState (first_state pieces reads.0 items)
 
 abbrev pub StateLaw : Type 0
 StateLaw = (defined : List (List ℕ)) (number : ℕ) (rule : Rule) (followed : Bool) (s next : Chained) → HavePlusCode rule.tokens → IsSoundState s
@@ -90,7 +91,8 @@ module _ (cut_law : CutLaw) (state_law : StateLaw) (text_law : TextLaw) (defined
             reading = suc left.reading;
             pieces = pieces.0;
             items = items.0;
-            skipped = left.skipped ++ notes_from (suc left.reading) 0 items.0;
+            skipped = left.skipped
+                ++ notes_on left.loaded (suc left.reading) (record { pieces = pieces.0; shown = items.1.0; items = items.0 });
           } in
           go next (record { pieces = pieces.0; cut = pieces.1; items = items.0; reads = items.1; is = refl }))
 
@@ -130,5 +132,5 @@ module _ (cut_law : CutLaw) (state_law : StateLaw) (text_law : TextLaw) (defined
   chain_some first_law rules plus text = λ absent.
       let cut = cut_law text in
       reads_some cut_law cut.0 (λ items.
-      runs_some 0 rules (first_state cut.0 items.0) plus (first_law text cut.0 items.0 cut.1 items.1) (λ r.
+      runs_some 0 rules (first_state cut.0 items.1.0 items.0) plus (first_law text cut.0 items.0 cut.1 items.1) (λ r.
       absent (r.0, record { pieces = cut.0; cut = cut.1; items = items.0; reads = items.1; runs = r.1 })))

@@ -14,8 +14,8 @@ use Rattle.text_laws.specs.OutputLaws.Differ.{AllDiffer}
 use Rattle.text_laws.specs.ValueLaws.Carried.{CarriesTerms}
 use Rattle.text_laws.specs.TokenLaws.States.{IsSoundState}
 
-pub first_sound : (bytes : List ℕ) (pieces : List TextPiece) (items : List Item) → Lexes bytes pieces → Reads pieces items
-    → AllDiffer (ids_of pieces) → All (λ id. id < length (ids_of pieces)) (ids_of pieces) → IsSoundState (first_state pieces items)
+pub first_sound : (bytes : List ℕ) (pieces : List TextPiece) (items : List Item) → Lexes bytes pieces → (reads : Reads pieces items)
+    → AllDiffer (ids_of pieces) → All (λ id. id < length (ids_of pieces)) (ids_of pieces) → IsSoundState (first_state pieces reads.0 items)
 first_sound bytes pieces items lexes reads differ below = record {
   cuts = lexes.1.0;
   reads = reads;

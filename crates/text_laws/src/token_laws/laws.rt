@@ -20,8 +20,8 @@ use rule_chain::ids_stay_below_next;
 
 /// Before the first rule, the ids of the text's tokens differ and are below the next one. Does nothing.
 pub fn first_states_are_sound()
-    ensures { (bytes : List ℕ) (pieces : List TextPiece) (items : List Item) → Lexes bytes pieces → Reads pieces items →
-        IsSoundState (first_state pieces items) }
+    ensures { (bytes : List ℕ) (pieces : List TextPiece) (items : List Item) → Lexes bytes pieces →
+        (reads : Reads pieces items) → IsSoundState (first_state pieces reads.0 items) }
 {
     ids_differ();
 }

@@ -6,7 +6,7 @@ ghost use Rattle.cpp_lines.specs.declared.reading.Item.{Item};
 ghost use Rattle.c_file.specs.Reads.{Reads};
 ghost use Rattle.smpl_patch.specs.declared.rule.Rule.{Rule};
 ghost use Rattle.rule_envs.specs.declared.file_env.FileEnv.{FileEnv};
-ghost use Rattle.rule_chain.specs.RuleMatches.Turns.{rule_found, file_envs_after};
+ghost use Rattle.rule_chain.specs.RuleMatches.Matching.{rule_found, file_envs_after};
 ghost use Rattle.text_laws.specs.Sound.{HasCTerms};
 ghost use Rattle.text_laws.specs.ValueLaws.Carried.{CarriesTerms};
 

@@ -1,4 +1,4 @@
-use Rattle.std.proofs.Common.{◌++◌, ◌∙◌, refl, ap, sym, subst, length, map, List}
+use Rattle.std.proofs.Common.{◌≡◌, ◌++◌, ◌∙◌, refl, ap, sym, subst, length, map, List}
 use Rattle.c_lexer.specs.Pieces.{TextPiece, text_of}
 use Rattle.c_lexer.specs.Ids.{ids_of}
 use Rattle.c_lexer.specs.Lexes.{Lexes}
@@ -6,7 +6,7 @@ use Rattle.c_file.specs.Reads.{Reads}
 use Rattle.rule_envs.specs.Shares.{bare_file_env}
 use Rattle.rule_chain.specs.RuleWitnesses.Bare.{bare_witness}
 use Rattle.rule_chain.specs.declared.rule_run.state.SkipNote.{SkipNote}
-use Rattle.rule_chain.specs.RuleRun.States.{notes_from}
+use Rattle.rule_chain.specs.RuleRun.Notes.{notes_on}
 use Rattle.rule_chain.proofs.chain.begin.Goals as goal
 
 pub returns-clause-cut : goal.returns-clause-cut
@@ -15,12 +15,14 @@ returns-clause-cut c =
     (subst (λ (b : List _). Lexes b c.in_ok-lexed.lexed) c.as_slice.ensures.value c.in_ok-lexed.ensures)
 
 pub returns-clause-reads : goal.returns-clause-reads
-returns-clause-reads c =
-    subst (λ (p : List TextPiece). Reads p c.in_ok-file.file.items) (sym c.in_ok-file.ensures.pieces) c.in_ok-file.ensures.items
+returns-clause-reads c = c.in_ok-file.ensures.reads
 
 pub returns-clause-at : goal.returns-clause-at
-returns-clause-at c =
+returns-clause-at c = λ reads.
     let pieces = c.in_ok-file.ensures.pieces in
+    let file = c.in_ok-file.file in
+    let loaded : length (ids_of file.pieces) ≡ c.token_count-next.result =
+    ap (λ (p : List TextPiece). length (ids_of p)) pieces ∙ sym c.token_count-next.ensures.count in
     let lexes : Lexes c.args.bytes.items c.in_ok-lexed.lexed =
     subst (λ (b : List _). Lexes b c.in_ok-lexed.lexed) c.as_slice.ensures.value c.in_ok-lexed.ensures in
     record {
@@ -33,12 +35,14 @@ returns-clause-at c =
       };
       at = record {
         page = ap (λ n. record { bytes = text_of c.in_ok-file.file.pieces; ids = ids_of c.in_ok-file.file.pieces; next = n })
-            (ap (λ (p : List TextPiece). length (ids_of p)) pieces ∙ sym c.token_count-next.ensures.count);
+            loaded;
         pieces = refl;
         items = refl;
       };
       bytes = sym lexes.0 ∙ ap text_of (sym pieces);
       reading = refl;
-      skipped = sym (c.in_ok-skipped.ensures ∙ ap (λ (x : List SkipNote). x ++ notes_from 0 0 c.items.result.now) c.new.ensures
-          ∙ ap (notes_from 0 0) c.items.ensures.items);
+      loaded = loaded;
+      skipped = (λ i. notes_on (loaded i) 0
+          (record { pieces = file.pieces; shown = c.in_ok-file.ensures.shown reads i; items = file.items }))
+          ∙ sym (c.in_ok-skipped.ensures ∙ ap (λ (x : List SkipNote). x ++ notes_on c.token_count-next.result 0 file) c.new.ensures);
     }

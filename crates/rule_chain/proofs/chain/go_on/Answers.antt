@@ -1,6 +1,5 @@
-use Rattle.std.proofs.Common.{◌<◌, ◌≤◌, ◌++◌, ◌+◌, ◌∙◌, ap, sym, arith, length}
+use Rattle.std.proofs.Common.{◌<◌, ◌≤◌, ap, sym, arith, length}
 use Rattle.rule_chain.specs.RuleEdits.Pages.{Page}
-use Rattle.rule_chain.specs.RuleRun.States.{notes_from}
 use Rattle.rule_chain.proofs.StepLemmas.{read_on}
 use Rattle.rule_chain.proofs.chain.go_on.Goals as goal
 
@@ -12,6 +11,6 @@ returns-then-done-count-clause-comes c = λ rules s count left.
 pub returns-clause-comes : goal.returns-clause-comes
 returns-clause-comes c = λ rules s count left.
     let lt : c.args.edited.done < length rules = omega arith in
-    read_on c.args.edited.findings c.args.edited.text c.args.reading c.args.skipped c.in_ok-file.file s left c.in_ok-file.ensures.cut c.in_ok-file.ensures.reads
-    rules c.args.edited.done c.in_ok-skipped.skipped lt
-    (c.in_ok-skipped.ensures ∙ ap (λ items. c.args.skipped ++ notes_from (c.args.reading + 1) 0 items) c.items.ensures.items)
+    read_on c.args.edited.findings c.args.edited.text c.args.reading c.args.loaded c.args.skipped c.in_ok-file.file s left
+    c.in_ok-file.ensures.cut c.in_ok-file.ensures.reads (c.in_ok-file.ensures.shown c.in_ok-file.ensures.reads)
+    rules c.args.edited.done c.in_ok-skipped.skipped lt c.in_ok-skipped.ensures

@@ -1,6 +1,5 @@
 use Rattle.std.proofs.Common.{◌∙◌, subst, sym, List}
 use Rattle.c_lexer.specs.Pieces.{TextPiece}
-use Rattle.c_file.specs.Reads.{Reads}
 use Rattle.rule_chain.specs.RuleEdits.Pages.{page_in}
 use Rattle.rule_chain.specs.RuleRun.States.{IsCut}
 use Rattle.rule_chain.proofs.readings.read_again.Goals as goal
@@ -15,5 +14,7 @@ returns-clause-cut c =
     subst (λ (p : List TextPiece). IsCut (page_in c.args.text.now) p) (sym c.in_ok-file.ensures.pieces) own
 
 pub returns-clause-reads : goal.returns-clause-reads
-returns-clause-reads c =
-    subst (λ (p : List TextPiece). Reads p c.in_ok-file.file.items) (sym c.in_ok-file.ensures.pieces) c.in_ok-file.ensures.items
+returns-clause-reads c = c.in_ok-file.ensures.reads
+
+pub returns-clause-shown : goal.returns-clause-shown
+returns-clause-shown c = c.in_ok-file.ensures.shown

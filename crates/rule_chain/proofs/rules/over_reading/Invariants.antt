@@ -1,6 +1,6 @@
 use Rattle.std.proofs.Common.{◌≡◌, None}
 use Rattle.rule_chain.specs.RuleRun.States.{Chained}
-use Rattle.rule_chain.specs.RuleRun.Worked.{AreFindingsOf, IsAtReading}
+use Rattle.rule_chain.specs.RuleRun.Outcomes.{AreFindingsOf, IsAtReading}
 use Rattle.rule_chain.specs.Stops.{LeadsOn}
 use Rattle.rule_chain.proofs.rules.over_reading.Given as goal
 

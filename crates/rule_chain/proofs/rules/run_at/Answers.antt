@@ -2,7 +2,7 @@ use Rattle.std.proofs.Common.{◌≡◌, ◌⊎◌, ◌+◌, ℕ, List, inl, inr
 use Rattle.std.proofs.lemmas.Result.{IfOk-weaker, IfErr-weaker}
 use Rattle.rule_chain.specs.RuleRun.States.{Chained}
 use Rattle.rule_chain.specs.RuleRun.OneRule.{IsFault}
-use Rattle.rule_chain.specs.RuleRun.Worked.{AreFindingsOf, IsAtReading, IsOutcome}
+use Rattle.rule_chain.specs.RuleRun.Outcomes.{AreFindingsOf, IsAtReading, IsOutcome}
 use Rattle.rule_chain.specs.declared.rule_run.fault.FileFault.TheVariants as fault
 use Rattle.rule_chain.specs.Chain.{Runs, Refused}
 use Rattle.rule_chain.specs.Stops.{LeadsOn}

@@ -1,4 +1,4 @@
-use Rattle.insert_laws.proofs.TouchLaws.TurnLemmas.{graphs_of, all_show, all_carried}
+use Rattle.insert_laws.proofs.TouchLaws.MatchingLemmas.{graphs_of, all_show, all_carried}
 use Rattle.insert_laws.proofs.touch_laws.laws.touches_show_terms.Goals as goal
 
 pub returns : goal.returns

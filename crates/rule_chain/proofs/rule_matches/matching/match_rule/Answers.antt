@@ -3,9 +3,9 @@ use Rattle.std.proofs.lemmas.Result.{err_from_is_err_and}
 use Rattle.rule_envs.specs.Shares.{bare_file_env}
 use Rattle.rule_chain.specs.FileWitnesses.Found as found
 use Rattle.rule_chain.specs.declared.rule_matches.fault.MatchFault.TheVariants.{TooManyWitnesses, TooManyEnvironments}
-use Rattle.rule_chain.specs.RuleMatches.Turns.{AreApart, rule_share}
-use Rattle.rule_chain.proofs.RuleMatches.TurnLemmas.{run_under, under_new, places_of_all, are_brought}
-use Rattle.rule_chain.proofs.RuleMatches.TurnLemmas.{witnesses_told, not_by_witnesses, environments_told, not_by_environments}
+use Rattle.rule_chain.specs.RuleMatches.Matching.{AreApart, rule_share}
+use Rattle.rule_chain.proofs.RuleMatches.MatchingLemmas.{run_under, under_new, places_of_all, are_brought}
+use Rattle.rule_chain.proofs.RuleMatches.MatchingLemmas.{witnesses_told, not_by_witnesses, environments_told, not_by_environments}
 use Rattle.rule_chain.proofs.rule_matches.matching.match_rule.Goals as goal
 
 pub witnesses-requires-clause-new : goal.witnesses-requires-clause-new

@@ -1,4 +1,4 @@
-use Rattle.rule_chain.proofs.RuleRun.WorkLemmas.{rule_works, edits_stop, matches_stop}
+use Rattle.rule_chain.proofs.RuleRun.OutcomeLemmas.{rule_works, edits_stop, matches_stop}
 use Rattle.rule_chain.proofs.rule_run.outcome.run_rule.Goals as goal
 
 pub returns-in-Err-clause-fault : goal.returns-in-Err-clause-fault

@@ -1,4 +1,4 @@
-use Rattle.text_laws.proofs.ValueLaws.TurnLemmas.{all_found, all_carried}
+use Rattle.text_laws.proofs.ValueLaws.MatchingLemmas.{all_found, all_carried}
 use Rattle.text_laws.proofs.value_laws.laws.found_values_are_sound.Goals as goal
 
 pub returns : goal.returns

@@ -48,8 +48,8 @@ use Rattle.rule_envs.specs.Depends.{judge}
 use Rattle.rule_envs.specs.Shares.{takes_part, share, projections}
 use Rattle.rule_envs.specs.FileEnvs.{extended, replaced, becomes_by}
 use Rattle.rule_chain.specs.FileWitnesses.Found.{witnesses_in, found_from, found_under, brings}
-use Rattle.rule_chain.specs.RuleMatches.Turns.{rule_found, file_envs_after}
-use Rattle.rule_chain.proofs.RuleMatches.TurnLemmas.{are_new}
+use Rattle.rule_chain.specs.RuleMatches.Matching.{rule_found, file_envs_after}
+use Rattle.rule_chain.proofs.RuleMatches.MatchingLemmas.{are_new}
 use Rattle.rule_laws.specs.Ready.{IsReady}
 use Rattle.edit_marks.specs.EditWalk.Touches.{Touched, touches_in, touches_of, touches}
 use Rattle.insert_laws.specs.TermLaws.Terms.{is_term, HidesBlocks}

@@ -15,7 +15,7 @@ use Rattle.rule_envs.specs.Shares.{bare_file_env}
 use Rattle.rule_envs.specs.FileEnvs.{most_environments}
 use Rattle.rule_chain.specs.declared.rule_matches.fault.MatchFault.{MatchFault}
 use Rattle.rule_chain.specs.declared.rule_matches.fault.MatchFault.TheVariants as match_faults
-use Rattle.rule_chain.specs.RuleMatches.Turns.{rule_found, file_envs_after, has_too_many}
+use Rattle.rule_chain.specs.RuleMatches.Matching.{rule_found, file_envs_after, has_too_many}
 use Rattle.rule_chain.specs.declared.rule_edits.fault.EditFault.{EditFault}
 use Rattle.rule_chain.specs.declared.rule_edits.fault.EditFault.TheVariants as edit_faults
 use Rattle.rule_chain.specs.declared.rule_edits.texts.NewText.{NewText}
@@ -29,7 +29,7 @@ use Rattle.rule_chain.specs.RuleRun.States.{Chained}
 use Rattle.rule_chain.specs.RuleRun.OneRule.{had_after, match_fault, edit_fault, file_witnesses, rule_file_envs, is_too_much, RuleEdits, AreFew}
 use Rattle.rule_chain.specs.RuleRun.OneRule.{IsFault}
 use Rattle.rule_chain.specs.RuleRun.OneRule.IsFault.{too_many_witnesses, too_many_environments, in_edits}
-use Rattle.rule_chain.specs.RuleRun.Worked.{AreFindingsOf, IsAtReading, IsOutcome}
+use Rattle.rule_chain.specs.RuleRun.Outcomes.{AreFindingsOf, IsAtReading, IsOutcome}
 
 -- ---- witnesses without ids
 

@@ -29,7 +29,7 @@ use Rattle.rule_envs.specs.Inherited.{inherited_of}
 use Rattle.rule_envs.specs.Shares.{takes_part, share, projections}
 use Rattle.rule_envs.specs.FileEnvs.{extended, replaced, becomes_by}
 use Rattle.rule_chain.specs.FileWitnesses.Found.{witnesses_in, found_from, found_under, brings}
-use Rattle.rule_chain.specs.RuleMatches.Turns.{rule_found, file_envs_after}
+use Rattle.rule_chain.specs.RuleMatches.Matching.{rule_found, file_envs_after}
 use Rattle.text_laws.specs.OutputLaws.Values.{AreCValues}
 use Rattle.text_laws.specs.Sound.{HaveCValues, HasCTerms}
 use Rattle.text_laws.specs.ValueLaws.Carried.{CarriesTerms}

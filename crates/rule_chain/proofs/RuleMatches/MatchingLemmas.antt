@@ -26,7 +26,7 @@ use Rattle.rule_chain.specs.declared.rule_witnesses.fault.ItemFault.{ItemFault}
 use Rattle.rule_chain.specs.declared.rule_witnesses.fault.ItemFault.TheVariants as job_faults
 use Rattle.rule_chain.specs.FileWitnesses.Found.{brings}
 use Rattle.rule_chain.specs.declared.rule_matches.fault.MatchFault.TheVariants.{TooManyWitnesses, TooManyEnvironments}
-use Rattle.rule_chain.specs.RuleMatches.Turns.{AreApart, rule_share, rule_projections, job_fault, envs_fault}
+use Rattle.rule_chain.specs.RuleMatches.Matching.{AreApart, rule_share, rule_projections, job_fault, envs_fault}
 
 -- a pair of another variable
 other_var : (vars : List Var) (y x : Var) → is_among vars x ≡ false → is_among vars y ≡ true → same_var y x ≡ false

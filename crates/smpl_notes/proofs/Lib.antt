@@ -1,0 +1,5 @@
+mod Examples
+pub mod ListLemmas
+pub mod FoldLemmas
+pub mod BodyLemmas
+pub mod LoopLemmas

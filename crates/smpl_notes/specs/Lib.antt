@@ -1,0 +1,9 @@
+-- What contracts depend on, in reading order: the notes on a patch, kind by kind, what they say, and which are told.
+pub mod Notes
+pub mod Tokens
+pub mod Minus
+pub mod Functions
+pub mod Names
+pub mod NullTests
+pub mod Sentences
+pub mod Told

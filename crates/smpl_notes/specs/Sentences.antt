@@ -1,0 +1,24 @@
+-- The sentences of notes, without places.
+use Rattle.std.specs.Prelude.{ℕ, List, [], ◌++◌, codes}
+use Rattle.smpl_notes.specs.declared.note.Slip.{Slip}
+use Rattle.smpl_notes.specs.declared.note.Slip.TheVariants as slip
+use Rattle.smpl_notes.specs.declared.note.Note.{Note}
+use Rattle.smpl_notes.specs.declared.note.Note.TheVariants.{NoSign, InRule}
+
+abbrev pub no_sign : List ℕ
+no_sign = codes "no line has -, + or * in its first column, so nothing is changed or reported"
+
+abbrev pub fixed : Slip → List ℕ
+fixed slip.IndentedMinus = codes "a - that isn't in the first column is an operator"
+fixed slip.LooplessFunction = codes "under forall this finds only functions without a loop; exists finds all"
+fixed slip.UntypedFunction = codes "a function needs its type, as in T f(...); this is a loop of a macro"
+fixed (slip.PlainName name) = codes " is a plain name here; is it a metavariable?"
+fixed slip.WrittenTest = codes "without --iso-file this finds only tests that are written so"
+
+abbrev pub name_of : Slip → List ℕ
+name_of (slip.PlainName name) = name
+name_of _ = []
+
+abbrev pub sentence : Note → List ℕ
+sentence NoSign = no_sign
+sentence (InRule rule place s) = name_of s ++ fixed s

@@ -11,7 +11,7 @@ _rollgorge() {
     --functions) COMPREPLY=(); return ;;
   esac
   case $word in
-    -*) COMPREPLY=($(compgen -W '--sp-file --in-place --witnesses --iso-file --define --jobs --generate --functions --help --version' -- "$word")) ;;
+    -*) COMPREPLY=($(compgen -W '--sp-file --in-place --witnesses --check --quiet --iso-file --define --jobs --generate --functions --help --version' -- "$word")) ;;
     *) COMPREPLY=($(compgen -f -X '!*.[ch]' -- "$word") $(compgen -d -- "$word")) ;;
   esac
 }

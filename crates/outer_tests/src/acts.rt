@@ -42,6 +42,7 @@ fn the_statuses_have_these_numbers(rt: HostRuntime) {
         (Status::CannotRead, 5),
         (Status::CannotWrite, 6),
         (Status::NoMemory, 7),
+        (Status::Found, 8),
     ];
     for (status, number) in numbers {
         assert_eq!(rt; status.number(), number);

@@ -15,6 +15,7 @@ number_of status.FileRefused = 4
 number_of status.CannotRead = 5
 number_of status.CannotWrite = 6
 number_of status.NoMemory = 7
+number_of status.Found = 8
 
 -- the number for a run that stopped
 abbrev pub status_of : Stopped → ℕ

@@ -24,6 +24,8 @@ pub enum Status {
     CannotWrite = 6,
     /// Memory ran out.
     NoMemory = 7,
+    /// Under `--check`: something was found, and everything was done.
+    Found = 8,
 }
 
 impl Status {

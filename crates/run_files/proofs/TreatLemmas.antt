@@ -1,7 +1,7 @@
 -- How a text is treated, by how many of the acts that result from it were done.
-use Rattle.std.proofs.Common.{◌≡◌, ◌≤◌, ◌∙◌, true, false, not, Bool, cond, ℕ, List, length, [], ◌∷◌, ◌++◌}
+use Rattle.std.proofs.Common.{◌≡◌, ◌≤◌, ◌∙◌, ◌&&◌, true, false, not, Bool, cond, ℕ, List, length, [], ◌∷◌, ◌++◌}
 use Rattle.std.proofs.Common.{None, Some, Err, refl, sym, inl, inr, map, ap, subst, codes}
-use Rattle.std.specs.Prelude.{Option}
+use Rattle.std.specs.Prelude.{Option, nat_le}
 use Rattle.std.specs.Fmt.{decimal}
 use Rattle.run_acts.specs.Acts.{Act, Print, Observed}
 use Rattle.run_acts.specs.Breaks.{Counts, NoneFell}
@@ -10,7 +10,7 @@ use Rattle.smpl_patch.specs.declared.rule.Patch.{Patch}
 use Rattle.smpl_patch.specs.declared.witness.RuleWitness.{RuleWitness}
 use Rattle.wit_print.specs.Report.{report_of}
 use Rattle.c_places.specs.declared.places.TextPlaces.{TextPlaces}
-use Rattle.c_places.specs.Starts.{ArePlaces, starts_in}
+use Rattle.c_places.specs.Starts.{ArePlaces, token_starts}
 use Rattle.rule_chain.specs.declared.rule_run.state.SkipNote.{SkipNote}
 use Rattle.rule_chain.specs.declared.rule_run.fault.FileFault.{FileFault}
 use Rattle.rule_chain.specs.declared.rule_run.fault.FileFault.TheVariants.{NoMemory}
@@ -21,7 +21,10 @@ use Rattle.rule_chain.specs.Results.{AnswersState, IsResult}
 use Rattle.run_words.specs.declared.order.Mode.{Mode}
 use Rattle.run_files.specs.RunLines.Files.{refused_line, fault_place}
 use Rattle.run_files.specs.RunLines.Summary.{summary, rule_lines}
-use Rattle.run_files.specs.Treatment.{faulted, printing, storing, shown, stored_after, note_act, skipped_lines, treated_by, summed_by, IsTreatmentOf, Sums}
+use Rattle.run_files.specs.RunStages.Stages.{generated_name}
+use Rattle.run_files.specs.declared.tally.Tally.{Tally}
+use Rattle.run_files.specs.Treatment.{faulted, refused_tally, printing, storing, naming, shown, stored_after, note_act, skipped_lines, told_places, is_hit}
+use Rattle.run_files.specs.Treatment.{treated_by, summed_by, IsTreatmentOf, Sums}
 use Rattle.run_files.specs.Does.{Does, Stops}
 use Rattle.run_files.specs.Cuts.{TreatsAll, TreatsPart}
 use Rattle.run_files.specs.Cuts.TreatsPart.{earlier, later}
@@ -35,7 +38,7 @@ use Rattle.run_files.proofs.ReportLemmas.{report-bare, summary-bare}
 pub chain_places : (rules : List Rule) (defined : List (List ℕ)) (bytes : List ℕ) (end : Outcome) → Chain rules defined bytes end
     → (places : TextPlaces) × ArePlaces bytes places
 chain_places rules defined bytes end chain =
-    (starts_in chain.pieces chain.reads.0, (chain.pieces, (chain.cut, (chain.reads.0, (chain.reads.1, refl)))))
+    (record { tokens = token_starts chain.pieces }, (chain.pieces, (chain.cut, refl)))
 
 module _ (name text : List ℕ) (places : TextPlaces) where
   -- the returned notes are those of the state
@@ -55,16 +58,31 @@ module _ (name text : List ℕ) (places : TextPlaces) where
 
 -- ---- what is shown
 
-pub shown_report : (mode : Mode) (patch : Patch) (name : List ℕ) (s : Chained) → mode.witnesses ≡ true
-    → printing (report_of patch name s.found) ≡ shown mode patch name s
-shown_report mode patch name s is =
-    sym (ap (λ (b : Bool). cond b (printing (report_of patch name s.found)) (cond mode.in_place [] (printing s.page.bytes))) is)
+module _ (mode : Mode) (patch : Patch) (name bytes : List ℕ) (s : Chained) where
+  abbrev text_kept : List Act
+  text_kept = cond mode.in_place [] (printing s.page.bytes)
 
-pub shown_text : (mode : Mode) (patch : Patch) (name : List ℕ) (s : Chained) → mode.witnesses ≡ false → mode.in_place ≡ false
-    → printing s.page.bytes ≡ shown mode patch name s
-shown_text mode patch name s unasked off =
-    sym (ap (λ (b : Bool). cond b (printing (report_of patch name s.found)) (cond mode.in_place [] (printing s.page.bytes))) unasked
-    ∙ ap (λ (b : Bool). cond b [] (printing s.page.bytes)) off)
+  abbrev shown_by : (witnesses check : Bool) → List Act
+  shown_by witnesses check = cond witnesses (printing (report_of patch name s.found)) (cond check (naming name (is_hit patch bytes s)) text_kept)
+
+  pub shown_report : mode.witnesses ≡ true → printing (report_of patch name s.found) ≡ shown mode patch name bytes s
+  shown_report is = sym (ap (λ (b : Bool). shown_by b mode.check) is)
+
+  pub shown_name : (hit : Bool) → mode.witnesses ≡ false → mode.check ≡ true → hit ≡ (mode.check && is_hit patch bytes s)
+      → naming name hit ≡ shown mode patch name bytes s
+  shown_name hit unasked on is =
+      ap (naming name) (is ∙ ap (λ (b : Bool). b && is_hit patch bytes s) on)
+      ∙ sym (ap (λ (b : Bool). shown_by b mode.check) unasked ∙ ap (λ (b : Bool). shown_by false b) on)
+
+  pub shown_text : mode.witnesses ≡ false → mode.check ≡ false → mode.in_place ≡ false → printing s.page.bytes ≡ shown mode patch name bytes s
+  shown_text unasked off kept =
+      sym (ap (λ (b : Bool). shown_by b mode.check) unasked ∙ ap (λ (b : Bool). shown_by false b) off
+      ∙ ap (λ (b : Bool). cond b [] (printing s.page.bytes)) kept)
+
+  pub shown_nothing : mode.witnesses ≡ false → mode.check ≡ false → mode.in_place ≡ true → [] ≡ shown mode patch name bytes s
+  shown_nothing unasked off stored =
+      sym (ap (λ (b : Bool). shown_by b mode.check) unasked ∙ ap (λ (b : Bool). shown_by false b) off
+      ∙ ap (λ (b : Bool). cond b [] (printing s.page.bytes)) stored)
 
 is_on : (b : Bool) → not b ≡ false → b ≡ true
 is_on true e = refl
@@ -95,14 +113,17 @@ summary_shown rules applied s a =
     ∙ (λ i. summary rules (a.witnesses i) (length (a.bytes i)))
 
 -- what is made of the bytes, by whether they are refused
-pub applied_some : (patch : Patch) (defined : List (List ℕ)) (name bytes : List ℕ) (o : Option Applied) (applied : Applied) (old new : Observed)
-    → o ≡ Some applied → AppliesTo patch defined name bytes o old new → AppliesTo patch defined name bytes (Some applied) old new
-applied_some patch defined name bytes o applied old new is made = subst (λ (a : Option Applied). AppliesTo patch defined name bytes a old new) is made
+pub applied_some : (patch : Patch) (defined : List (List ℕ)) (quiet : Bool) (name bytes : List ℕ) (o : Option Applied) (applied : Applied)
+    (old new : Observed) → o ≡ Some applied → AppliesTo patch defined quiet name bytes o old new
+    → AppliesTo patch defined quiet name bytes (Some applied) old new
+applied_some patch defined quiet name bytes o applied old new is made =
+    subst (λ (a : Option Applied). AppliesTo patch defined quiet name bytes a old new) is made
 
-pub applied_none : (patch : Patch) (defined : List (List ℕ)) (name bytes : List ℕ) (o : Option Applied) (old new : Observed)
-    → ((applied : Applied) → o ≡ Some applied → ⊥) → AppliesTo patch defined name bytes o old new → AppliesTo patch defined name bytes None old new
-applied_none patch defined name bytes None old new not made = made
-applied_none patch defined name bytes (Some applied) old new not made = absurd (not applied refl)
+pub applied_none : (patch : Patch) (defined : List (List ℕ)) (quiet : Bool) (name bytes : List ℕ) (o : Option Applied) (old new : Observed)
+    → ((applied : Applied) → o ≡ Some applied → ⊥) → AppliesTo patch defined quiet name bytes o old new
+    → AppliesTo patch defined quiet name bytes None old new
+applied_none patch defined quiet name bytes None old new not made = made
+applied_none patch defined quiet name bytes (Some applied) old new not made = absurd (not applied refl)
 
 -- a fault other than `NoMemory` is that of the chain
 pub chain_of : (rules : List Rule) (defined : List (List ℕ)) (bytes : List ℕ) (fault : FileFault) → (fault ≡ NoMemory → ⊥)
@@ -110,41 +131,53 @@ pub chain_of : (rules : List Rule) (defined : List (List ℕ)) (bytes : List ℕ
 chain_of rules defined bytes fault other (inl none) = absurd (other none)
 chain_of rules defined bytes fault other (inr chain) = chain
 
+-- what is known of a text that isn't refused
+abbrev known : (hit found : Bool) → Tally
+known hit found = record { refused = false; hit = hit; found = found }
+
 -- ---- a file
 
 module _ (mode : Mode) (patch : Patch) (defined : List (List ℕ)) (name bytes : List ℕ) (short : length bytes ≤ 16777216) where
-  pub refused_all : (old new : Observed) → AppliesTo patch defined name bytes None old new
-      → TreatsAll (IsTreatmentOf mode patch defined name bytes) true old new
+  pub refused_all : (old new : Observed) → AppliesTo patch defined mode.quiet name bytes None old new
+      → TreatsAll (IsTreatmentOf mode patch defined name bytes) refused_tally old new
   refused_all old new is = record {
-    treated = faulted name bytes is.1.1.0 is.0;
+    treated = faulted name bytes (told_places mode.quiet is.1.1.0) is.0;
     treats = inr (short, (Refused is.0, (is.1.0, (is.1.1.0, (is.1.1.1.0, refl)))));
-    refused_is = refl;
+    tally_is = refl;
     does = is.1.1.1.1;
   }
 
-  pub refused_part : (before now : Counts) (old new : Observed) (status : ℕ) → TreatsPart (Refuses patch defined name bytes) before now old new status
+  pub refused_part : (before now : Counts) (old new : Observed) (status : ℕ)
+      → TreatsPart (Refuses patch defined mode.quiet name bytes) before now old new status
       → TreatsPart (IsTreatmentOf mode patch defined name bytes) before now old new status
   refused_part before now old new status (earlier memory same) = earlier memory same
   refused_part before now old new status (later treated is stops) =
       later treated (inr (short, (Refused is.0, (is.1.0, is.1.1)))) stops
 
-  module _ (s : Chained) (chain : Chain patch.rules defined bytes (Done s)) (places : TextPlaces) (are : ArePlaces bytes places)
+  module _ (s : Chained) (chain : Chain patch.rules defined bytes (Done s)) (found : TextPlaces) (are : ArePlaces bytes found)
       (notes : List SkipNote) (notes_are : notes ≡ s.skipped) where
+    abbrev places : TextPlaces
+    places = told_places mode.quiet found
+
     abbrev lines : List Act
     lines = skipped_lines name bytes places s
 
-    treats : IsTreatmentOf mode patch defined name bytes (treated_by mode patch name bytes places (Done s))
-    treats = inr (short, (Done s, (chain, (places, (are, refl)))))
+    abbrev texts : List Act
+    texts = shown mode patch name bytes s
 
-    pub treated_all : (old mid one two new : Observed) → mid ≡ old → Does (map (note_act name bytes places) notes) mid one
-        → Does (shown mode patch name s) one two → Does (stored_after mode name bytes s) two new
-        → TreatsAll (IsTreatmentOf mode patch defined name bytes) false old new
-    treated_all old mid one two new same first second third = record {
+    treats : IsTreatmentOf mode patch defined name bytes (treated_by mode patch name bytes places (Done s))
+    treats = inr (short, (Done s, (chain, (found, (are, refl)))))
+
+    pub treated_all : (hit has : Bool) (old mid one two new : Observed) → hit ≡ (mode.check && is_hit patch bytes s) → has ≡ nat_le 1 (length s.found)
+        → mid ≡ old → Does (map (note_act name bytes places) notes) mid one
+        → Does (shown mode patch name bytes s) one two → Does (stored_after mode name bytes s) two new
+        → TreatsAll (IsTreatmentOf mode patch defined name bytes) (record { refused = false; hit = hit; found = has }) old new
+    treated_all hit has old mid one two new hit_is has_is same first second third = record {
       treated = treated_by mode patch name bytes places (Done s);
       treats = treats;
-      refused_is = refl;
-      does = Does-then (lines ++ shown mode patch name s) (stored_after mode name bytes s) old two new
-          (Does-then lines (shown mode patch name s) old one two (notes_done name bytes places notes s old mid one notes_are same first) second) third;
+      tally_is = λ i. known (sym hit_is i) (sym has_is i);
+      does = Does-then (lines ++ texts) (stored_after mode name bytes s) old two new
+          (Does-then lines texts old one two (notes_done name bytes places notes s old mid one notes_are same first) second) third;
     }
 
     pub stopped_in_lines : (first before now : Counts) (old mid new : Observed) (status : ℕ) → NoneFell first before → mid ≡ old
@@ -152,74 +185,83 @@ module _ (mode : Mode) (patch : Patch) (defined : List (List ℕ)) (name bytes :
         → TreatsPart (IsTreatmentOf mode patch defined name bytes) first now old new status
     stopped_in_lines first before now old mid new status fell same stops =
         later (treated_by mode patch name bytes places (Done s)) treats
-        (Stops-first (lines ++ shown mode patch name s) (stored_after mode name bytes s) first now old new status
-        (Stops-first lines (shown mode patch name s) first now old new status
+        (Stops-first (lines ++ texts) (stored_after mode name bytes s) first now old new status
+        (Stops-first lines texts first now old new status
         (notes_stop name bytes places notes s first before now old mid new status notes_are fell same stops)))
 
     pub stopped_in_shown : (first before now : Counts) (old mid one new : Observed) (status : ℕ) → NoneFell first before → mid ≡ old
-        → Does (map (note_act name bytes places) notes) mid one → Stops (shown mode patch name s) before now one new status
+        → Does (map (note_act name bytes places) notes) mid one → Stops (shown mode patch name bytes s) before now one new status
         → TreatsPart (IsTreatmentOf mode patch defined name bytes) first now old new status
     stopped_in_shown first before now old mid one new status fell same first_lines stops =
         later (treated_by mode patch name bytes places (Done s)) treats
-        (Stops-first (lines ++ shown mode patch name s) (stored_after mode name bytes s) first now old new status
-        (Stops-then lines (shown mode patch name s) first before now old one new status fell
+        (Stops-first (lines ++ texts) (stored_after mode name bytes s) first now old new status
+        (Stops-then lines texts first before now old one new status fell
         (notes_done name bytes places notes s old mid one notes_are same first_lines) stops))
 
     pub stopped_in_kept : (first before now : Counts) (old mid one two new : Observed) (status : ℕ) → NoneFell first before → mid ≡ old
-        → Does (map (note_act name bytes places) notes) mid one → Does (shown mode patch name s) one two
+        → Does (map (note_act name bytes places) notes) mid one → Does (shown mode patch name bytes s) one two
         → Stops (stored_after mode name bytes s) before now two new status → TreatsPart (IsTreatmentOf mode patch defined name bytes) first now old new status
     stopped_in_kept first before now old mid one two new status fell same first_lines text stops =
         later (treated_by mode patch name bytes places (Done s)) treats
-        (Stops-then (lines ++ shown mode patch name s) (stored_after mode name bytes s) first before now old two new status fell
-        (Does-then lines (shown mode patch name s) old one two (notes_done name bytes places notes s old mid one notes_are same first_lines) text) stops)
+        (Stops-then (lines ++ texts) (stored_after mode name bytes s) first before now old two new status fell
+        (Does-then lines texts old one two (notes_done name bytes places notes s old mid one notes_are same first_lines) text) stops)
 
 -- ---- a generated text
 
-module _ (patch : Patch) (defined : List (List ℕ)) (name bytes : List ℕ) where
-  pub sum_refused_all : (old new : Observed) → AppliesTo patch defined name bytes None old new → TreatsAll (Sums patch defined name bytes) true old new
+module _ (patch : Patch) (defined : List (List ℕ)) (quiet : Bool) (bytes : List ℕ) where
+  pub sum_refused_all : (old new : Observed) → AppliesTo patch defined quiet generated_name bytes None old new
+      → TreatsAll (Sums patch defined quiet generated_name bytes) refused_tally old new
   sum_refused_all old new is = record {
-    treated = faulted name bytes is.1.1.0 is.0;
+    treated = faulted generated_name bytes (told_places quiet is.1.1.0) is.0;
     treats = (Refused is.0, (is.1.0, (is.1.1.0, (is.1.1.1.0, refl))));
-    refused_is = refl;
+    tally_is = refl;
     does = is.1.1.1.1;
   }
 
-  pub sum_refused_part : (before now : Counts) (old new : Observed) (status : ℕ) → TreatsPart (Refuses patch defined name bytes) before now old new status
-      → TreatsPart (Sums patch defined name bytes) before now old new status
+  pub sum_refused_part : (before now : Counts) (old new : Observed) (status : ℕ)
+      → TreatsPart (Refuses patch defined quiet generated_name bytes) before now old new status
+      → TreatsPart (Sums patch defined quiet generated_name bytes) before now old new status
   sum_refused_part before now old new status (earlier memory same) = earlier memory same
   sum_refused_part before now old new status (later treated is stops) = later treated (Refused is.0, (is.1.0, is.1.1)) stops
 
-  module _ (s : Chained) (chain : Chain patch.rules defined bytes (Done s)) (places : TextPlaces) (are : ArePlaces bytes places)
+  module _ (s : Chained) (chain : Chain patch.rules defined bytes (Done s)) (found : TextPlaces) (are : ArePlaces bytes found)
       (notes : List SkipNote) (notes_are : notes ≡ s.skipped) where
+    abbrev sum_places : TextPlaces
+    sum_places = told_places quiet found
+
     abbrev sum_lines : List Act
-    sum_lines = skipped_lines name bytes places s
+    sum_lines = skipped_lines generated_name bytes sum_places s
 
     abbrev sum_text : List ℕ
     sum_text = summary patch.rules s.found (length s.page.bytes)
 
-    sums : Sums patch defined name bytes (summed_by patch name bytes places (Done s))
-    sums = (Done s, (chain, (places, (are, refl))))
+    sums : Sums patch defined quiet generated_name bytes (summed_by patch generated_name bytes sum_places (Done s))
+    sums = (Done s, (chain, (found, (are, refl))))
 
-    pub summed_all : (old mid one new : Observed) → mid ≡ old → Does (map (note_act name bytes places) notes) mid one
-        → Does (printing sum_text) one new → TreatsAll (Sums patch defined name bytes) false old new
-    summed_all old mid one new same first second = record {
-      treated = summed_by patch name bytes places (Done s);
+    pub summed_all : (has : Bool) (old mid one new : Observed) → has ≡ nat_le 1 (length s.found)
+        → mid ≡ old → Does (map (note_act generated_name bytes sum_places) notes) mid one
+        → Does (printing sum_text) one new
+        → TreatsAll (Sums patch defined quiet generated_name bytes) (record { refused = false; hit = false; found = has }) old new
+    summed_all has old mid one new has_is same first second = record {
+      treated = summed_by patch generated_name bytes sum_places (Done s);
       treats = sums;
-      refused_is = refl;
-      does = Does-then sum_lines (printing sum_text) old one new (notes_done name bytes places notes s old mid one notes_are same first) second;
+      tally_is = λ i. known false (sym has_is i);
+      does = Does-then sum_lines (printing sum_text) old one new
+          (notes_done generated_name bytes sum_places notes s old mid one notes_are same first) second;
     }
 
     pub sum_stopped_in_lines : (first before now : Counts) (old mid new : Observed) (status : ℕ) → NoneFell first before → mid ≡ old
-        → Stops (map (note_act name bytes places) notes) before now mid new status → TreatsPart (Sums patch defined name bytes) first now old new status
+        → Stops (map (note_act generated_name bytes sum_places) notes) before now mid new status
+        → TreatsPart (Sums patch defined quiet generated_name bytes) first now old new status
     sum_stopped_in_lines first before now old mid new status fell same stops =
-        later (summed_by patch name bytes places (Done s)) sums
+        later (summed_by patch generated_name bytes sum_places (Done s)) sums
         (Stops-first sum_lines (printing sum_text) first now old new status
-        (notes_stop name bytes places notes s first before now old mid new status notes_are fell same stops))
+        (notes_stop generated_name bytes sum_places notes s first before now old mid new status notes_are fell same stops))
 
     pub stopped_in_summary : (first before now : Counts) (old mid one new : Observed) (status : ℕ) → NoneFell first before → mid ≡ old
-        → Does (map (note_act name bytes places) notes) mid one → Stops (printing sum_text) before now one new status
-        → TreatsPart (Sums patch defined name bytes) first now old new status
+        → Does (map (note_act generated_name bytes sum_places) notes) mid one → Stops (printing sum_text) before now one new status
+        → TreatsPart (Sums patch defined quiet generated_name bytes) first now old new status
     stopped_in_summary first before now old mid one new status fell same first_lines stops =
-        later (summed_by patch name bytes places (Done s)) sums
+        later (summed_by patch generated_name bytes sum_places (Done s)) sums
         (Stops-then sum_lines (printing sum_text) first before now old one new status fell
-        (notes_done name bytes places notes s old mid one notes_are same first_lines) stops)
+        (notes_done generated_name bytes sum_places notes s old mid one notes_are same first_lines) stops)

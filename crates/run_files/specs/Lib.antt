@@ -3,8 +3,9 @@
 pub mod Treatment
 pub mod Does
 pub mod Cuts
--- For internal use: what the rules of a patch make of the bytes of a file.
+-- For internal use: what the rules of a patch make of the bytes of a file, and what is printed of it.
 pub mod Applies
+pub mod Shows
 -- What run_lines defines.
 pub mod RunLines
 -- What run_stages defines.

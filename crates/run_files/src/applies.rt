@@ -32,21 +32,22 @@ fn is_no_memory(fault: &FileFault) -> bool
 }
 
 /// Applies the patch to the bytes and returns the result. Returns `None` if they are refused, after reporting the line of the
-/// refusal. Works on a copy of the bytes.
+/// refusal, which has no place under `--quiet`. Works on a copy of the bytes.
 pub fn apply_or_refuse<R: Threads + Sync, E: Sink, G: Gate>(
     workers: &Workers<'_, R, G>,
     rules: &PatchRules<'_>,
+    quiet: bool,
     name: &str,
     bytes: &[u8],
     err: &mut E,
 ) -> Result<Option<Applied>, Stopped>
     requires short { length bytes.now ≤ most_bytes }
     ensures done { IfOk result (λ applied. (files : Option Files) (stores : ℕ) (out : Option (List ℕ)) →
-        AppliesTo rules.now.patch.now rules.now.defined.now name.now bytes.now applied
+        AppliesTo rules.now.patch.now rules.now.defined.now quiet name.now bytes.now applied
         (observed files stores out (E.written err.old)) (observed files stores out (E.written err.new))) }
     ensures later { E.faults err.old ≤ E.faults err.new }
     ensures stopped { IfErr result (λ stopped. (files : Option Files) (out : Option (List ℕ)) (stores s o s' o' : ℕ) →
-        TreatsPart (Refuses rules.now.patch.now rules.now.defined.now name.now bytes.now)
+        TreatsPart (Refuses rules.now.patch.now rules.now.defined.now quiet name.now bytes.now)
         (counts s o (E.faults err.old)) (counts s' o' (E.faults err.new))
         (observed files stores out (E.written err.old)) (observed files stores out (E.written err.new)) (status_of stopped)) }
 {
@@ -57,7 +58,7 @@ pub fn apply_or_refuse<R: Threads + Sync, E: Sink, G: Gate>(
             if is_no_memory(&fault) {
                 return Err(Stopped::NoMemory);
             }
-            refuse(workers.alloc, err, name, bytes, &fault)?;
+            refuse(workers.alloc, err, quiet, name, bytes, &fault)?;
             Ok(None)
         }
     }

@@ -7,33 +7,57 @@ ghost use Rattle.run_acts.specs.Statuses.{status_of};
 ghost use Rattle.run_files.specs.RunLines.Files as lines;
 ghost use Rattle.c_places.specs.declared.places.TextPlaces.{TextPlaces as Found};
 ghost use Rattle.c_places.specs.Starts.{ArePlaces};
-ghost use Rattle.run_files.specs.Treatment.{printing, storing, note_act};
+ghost use Rattle.run_files.specs.Treatment as treatment;
+ghost use Rattle.run_files.specs.Treatment.{printing, storing, note_act, told_places};
+ghost use Rattle.run_files.specs.Shows.{named};
 ghost use Rattle.run_files.specs.Does.{Does, Stops};
 
 use crate::run_lines::{
-    placed, placed_on, refused_line, skipped_line, special_line, too_long_line,
+    named_line, placed, placed_on, refused_line, skipped_line, special_line, too_long_line,
 };
 use c_places::{TextPlaces, places_are_one, places_in};
 use c_terms::{NoMemory, same_text};
 use outer_io::{Shelf, Sink};
 use rule_chain::{FileFault, SkipNote};
 use run_acts::{Stopped, print, report, store};
-use sqlite_items::at;
+use sqlite_items::{Items, at};
 use std::alloc::Global;
 use text_places::{Place, Places};
 
-/// Returns where an item that a reading skipped begins in the text that was loaded, if that is the text of the reading.
-fn note_start(found: &TextPlaces, note: &SkipNote) -> Option<u32>
-    ensures { result ≡ lines.note_start found.now note.now }
+/// Returns no places.
+fn no_places(alloc: Global) -> TextPlaces
+    ensures { result ≡ treatment.no_places }
 {
-    if note.reading == 0 {
-        at(found.items.as_slice(), note.item as usize).copied()
-    } else {
-        None
+    TextPlaces {
+        tokens: Items::new(alloc),
     }
 }
 
-/// Reports a line for each skipped item, given where the items of the loaded text begin.
+/// Returns where the tokens of the text that was loaded begin. Under `--quiet` nothing has a place, and the text
+/// isn't cut.
+fn find_places(alloc: Global, quiet: bool, text: &[u8]) -> Result<TextPlaces, NoMemory>
+    ensures { IfOk result (λ here. (found : Found) → ArePlaces text.now found → here ≡ told_places quiet found) }
+{
+    if quiet {
+        return Ok(no_places(alloc));
+    }
+    // A law: does nothing. The places that are found here are those of the definition.
+    places_are_one();
+    places_in(alloc, text)
+}
+
+/// Returns where an item that a reading skipped is in the text that was loaded: at the first of its visible tokens that is of
+/// that text.
+fn note_start(found: &TextPlaces, note: &SkipNote) -> Option<u32>
+    ensures { result ≡ lines.note_start found.now note.now }
+{
+    match note.token {
+        Some(token) => at(found.tokens.as_slice(), token as usize).copied(),
+        None => None,
+    }
+}
+
+/// Reports a line for each skipped item, given where the tokens of the loaded text begin.
 fn report_notes<E: Sink>(
     alloc: Global,
     err: &mut E,
@@ -62,30 +86,30 @@ fn report_notes<E: Sink>(
 
 /// Reports a line for each skipped item of the text that was loaded.
 ///
-/// Linear in the lines, and, if there are any, in the text, which is cut once more.
+/// Linear in the lines, and, if there are any, in the text, which is cut once more. Under `--quiet` nothing has a place, and the
+/// text isn't cut.
 pub fn report_skipped<E: Sink>(
     alloc: Global,
     err: &mut E,
+    quiet: bool,
     name: &str,
     text: &[u8],
     notes: &[SkipNote],
 ) -> Result<(), Stopped>
     ensures done { OnOk result ((found : Found) → ArePlaces text.now found → (files : Option Files) (stores : ℕ) (out : Option (List ℕ)) →
-        Does (map (note_act name.now text.now found) notes.now)
+        Does (map (note_act name.now text.now (told_places quiet found)) notes.now)
         (observed files stores out (E.written err.old)) (observed files stores out (E.written err.new))) }
     ensures later { E.faults err.old ≤ E.faults err.new }
     ensures stopped { IfErr result (λ stopped. (found : Found) → ArePlaces text.now found →
         (files : Option Files) (out : Option (List ℕ)) (stores s o s' o' : ℕ) →
-        Stops (map (note_act name.now text.now found) notes.now)
+        Stops (map (note_act name.now text.now (told_places quiet found)) notes.now)
         (counts s o (E.faults err.old)) (counts s' o' (E.faults err.new))
         (observed files stores out (E.written err.old)) (observed files stores out (E.written err.new)) (status_of stopped)) }
 {
     if notes.is_empty() {
         return Ok(());
     }
-    // A law: does nothing. The places that are found here are those of the definition.
-    places_are_one();
-    let found = places_in(alloc, text)?;
+    let found = find_places(alloc, quiet, text)?;
     report_notes(alloc, err, name, &found, text, notes)
 }
 
@@ -105,6 +129,27 @@ pub fn show<O: Sink, E: Sink>(out: &mut O, err: &mut E, text: &[u8]) -> Result<(
         return Ok(());
     }
     print(out, err, text)
+}
+
+/// Prints the name of a file, on a line of its own.
+pub fn show_name<O: Sink, E: Sink>(
+    alloc: Global,
+    name: &str,
+    out: &mut O,
+    err: &mut E,
+) -> Result<(), Stopped>
+    ensures done { OnOk result ((files : Option Files) (stores : ℕ) → Does (named name.now)
+        (observed files stores (O.written out.old) (E.written err.old))
+        (observed files stores (O.written out.new) (E.written err.new))) }
+    ensures later { O.faults out.old ≤ O.faults out.new }
+    ensures later_err { E.faults err.old ≤ E.faults err.new }
+    ensures stopped { IfErr result (λ stopped. (files : Option Files) (stores s s' : ℕ) → Stops (named name.now)
+        (counts s (O.faults out.old) (E.faults err.old)) (counts s' (O.faults out.new) (E.faults err.new))
+        (observed files stores (O.written out.old) (E.written err.old))
+        (observed files stores (O.written out.new) (E.written err.new)) (status_of stopped)) }
+{
+    let line = named_line(alloc, name)?;
+    print(out, err, &line)
 }
 
 /// Stores a text if it differs from the bytes that were loaded.
@@ -160,15 +205,18 @@ fn fault_start(found: &TextPlaces, fault: &FileFault) -> Option<u32>
 }
 
 /// Returns where a refusal is in the text that was loaded.
-fn fault_place(alloc: Global, text: &[u8], fault: &FileFault) -> Result<Option<Place>, NoMemory>
+fn fault_place(
+    alloc: Global,
+    quiet: bool,
+    text: &[u8],
+    fault: &FileFault,
+) -> Result<Option<Place>, NoMemory>
     ensures { IfOk result (λ place. (found : Found) → ArePlaces text.now found →
-        place ≡ lines.fault_place text.now found fault.now) }
+        place ≡ lines.fault_place text.now (told_places quiet found) fault.now) }
 {
     match fault {
         FileFault::Conflict(..) => {
-            // A law: does nothing. The places that are found here are those of the definition.
-            places_are_one();
-            let found = places_in(alloc, text)?;
+            let found = find_places(alloc, quiet, text)?;
             let start = fault_start(&found, fault);
             Ok(placed(text, start))
         }
@@ -178,25 +226,27 @@ fn fault_place(alloc: Global, text: &[u8], fault: &FileFault) -> Result<Option<P
 
 /// Reports the line of a refused file.
 ///
-/// Linear in the line, and, if two edits clash, in the text that was loaded, which is cut once more.
+/// Linear in the line, and, if two edits clash, in the text that was loaded, which is cut once more. Under `--quiet` nothing has a
+/// place, and the text isn't cut.
 pub fn refuse<E: Sink>(
     alloc: Global,
     err: &mut E,
+    quiet: bool,
     name: &str,
     text: &[u8],
     fault: &FileFault,
 ) -> Result<(), Stopped>
     ensures done { OnOk result ((found : Found) → ArePlaces text.now found → (files : Option Files) (stores : ℕ) (out : Option (List ℕ)) →
-        Does (Report (lines.refused_line name.now (lines.fault_place text.now found fault.now) fault.now) ∷ [])
+        Does (Report (lines.refused_line name.now (lines.fault_place text.now (told_places quiet found) fault.now) fault.now) ∷ [])
         (observed files stores out (E.written err.old)) (observed files stores out (E.written err.new))) }
     ensures later { E.faults err.old ≤ E.faults err.new }
     ensures stopped { IfErr result (λ stopped. (found : Found) → ArePlaces text.now found →
         (files : Option Files) (out : Option (List ℕ)) (stores s o s' o' : ℕ) →
-        Stops (Report (lines.refused_line name.now (lines.fault_place text.now found fault.now) fault.now) ∷ [])
+        Stops (Report (lines.refused_line name.now (lines.fault_place text.now (told_places quiet found) fault.now) fault.now) ∷ [])
         (counts s o (E.faults err.old)) (counts s' o' (E.faults err.new))
         (observed files stores out (E.written err.old)) (observed files stores out (E.written err.new)) (status_of stopped)) }
 {
-    let place = fault_place(alloc, text, fault)?;
+    let place = fault_place(alloc, quiet, text, fault)?;
     report_made(err, refused_line(alloc, name, place, fault))
 }
 

@@ -20,9 +20,9 @@ unfolding parts_from
 both_forms = refl
 
 -- after `--` there are only files, and `-` is a file or a value
-files_behind : parts_of (codes "-" ∷ codes "--" ∷ codes "--jobs" ∷ codes "--" ∷ []) ≡ Some (File (codes "-") ∷ File (codes "--jobs") ∷ File (codes "--") ∷ [])
+files_after : parts_of (codes "-" ∷ codes "--" ∷ codes "--jobs" ∷ codes "--" ∷ []) ≡ Some (File (codes "-") ∷ File (codes "--jobs") ∷ File (codes "--") ∷ [])
 unfolding parts_from
-files_behind = refl
+files_after = refl
 
 -- the next word isn't a value if it is any option; after `=`, a value may look like an option
 no_value : parts_of (codes "--sp-file" ∷ codes "--" ∷ codes "p" ∷ []) ≡ None
@@ -77,7 +77,7 @@ unfolding options_of parts_from
 twice = refl
 
 a_file : order_of (codes "k.c" ∷ codes "--sp-file=p" ∷ codes "--witnesses" ∷ [])
-    ≡ Some (Apply (codes "p") None [] (OnFiles (record { witnesses = true; in_place = false }) (codes "k.c" ∷ [])))
+    ≡ Some (Apply (codes "p") None [] (OnFiles (record { witnesses = true; in_place = false; check = false; quiet = false }) (codes "k.c" ∷ [])))
 unfolding order_of ordered working options_of parts_from is_utf8 chars encode_utf8
 a_file = refl
 
@@ -90,7 +90,8 @@ empty_value : order_of (codes "--sp-file=" ∷ codes "k.c" ∷ []) ≡ None
 unfolding order_of ordered working options_of parts_from is_utf8 chars encode_utf8
 empty_value = refl
 
-empty_word : order_of (codes "--sp-file=p" ∷ [] ∷ []) ≡ Some (Apply (codes "p") None [] (OnFiles (record { witnesses = false; in_place = false }) ([] ∷ [])))
+empty_word : order_of (codes "--sp-file=p" ∷ [] ∷ [])
+    ≡ Some (Apply (codes "p") None [] (OnFiles (record { witnesses = false; in_place = false; check = false; quiet = false }) ([] ∷ [])))
 unfolding order_of ordered working options_of parts_from is_utf8 chars encode_utf8
 empty_word = refl
 
@@ -104,9 +105,43 @@ unfolding order_of ordered working options_of parts_from is_utf8 chars encode_ut
 jobs_of_a_text = refl
 
 a_patch_on_a_text : order_of (codes "--generate=1" ∷ codes "--functions=2" ∷ codes "--jobs=3" ∷ codes "--sp-file=p" ∷ []) ≡ Some (Apply
-    (codes "p") None [] (OnText 1 2))
+    (codes "p") None [] (OnText 1 2 false))
 unfolding order_of ordered working options_of parts_from is_utf8 chars encode_utf8
 a_patch_on_a_text = refl
+
+-- ---- what is checked, and what isn't said
+
+-- a report is printed where there is one, and the status says whether something was found
+checked_report : order_of (codes "--check" ∷ codes "--sp-file=p" ∷ codes "--witnesses" ∷ codes "k.c" ∷ [])
+    ≡ Some (Apply (codes "p") None [] (OnFiles (record { witnesses = true; in_place = false; check = true; quiet = false }) (codes "k.c" ∷ [])))
+unfolding order_of ordered working options_of parts_from is_utf8 chars encode_utf8
+checked_report = refl
+
+-- what is checked isn't stored
+checked_in_place : order_of (codes "--check" ∷ codes "--sp-file=p" ∷ codes "--in-place" ∷ codes "k.c" ∷ []) ≡ None
+unfolding order_of ordered working options_of parts_from is_utf8 chars encode_utf8
+checked_in_place = refl
+
+checked_text : order_of (codes "--generate=1" ∷ codes "--functions=2" ∷ codes "--sp-file=p" ∷ codes "--check" ∷ []) ≡ None
+unfolding order_of ordered working options_of parts_from is_utf8 chars encode_utf8
+checked_text = refl
+
+stored_quietly : order_of (codes "--quiet" ∷ codes "--sp-file=p" ∷ codes "--in-place" ∷ codes "k.c" ∷ [])
+    ≡ Some (Apply (codes "p") None [] (OnFiles (record { witnesses = false; in_place = true; check = false; quiet = true }) (codes "k.c" ∷ [])))
+unfolding order_of ordered working options_of parts_from is_utf8 chars encode_utf8
+stored_quietly = refl
+
+-- a generated text alone has no further lines to leave out
+quiet_on_a_text : order_of (codes "--generate=1" ∷ codes "--functions=2" ∷ codes "--quiet" ∷ codes "--sp-file=p" ∷ []) ≡ Some (Apply
+    (codes "p") None [] (OnText 1 2 true))
+unfolding order_of ordered working options_of parts_from is_utf8 chars encode_utf8
+quiet_on_a_text = refl
+
+quiet_text : order_of (codes "--generate=1" ∷ codes "--functions=2" ∷ codes "--quiet" ∷ []) ≡ None
+unfolding order_of ordered working options_of parts_from is_utf8 chars encode_utf8
+quiet_text = refl
+
+-- ---- jobs
 
 -- as many jobs as the words give, or one if they give no number
 jobs_said : jobs_of (codes "--jobs" ∷ codes "64" ∷ codes "--sp-file=p" ∷ codes "k.c" ∷ []) ≡ 64
@@ -178,6 +213,25 @@ two_apart : word_fault (codes "--generate=1" ∷ codes "--functions=1" ∷ codes
     ≡ Some (Apart name.Generate name.Witnesses)
 unfolding word_fault fault_from options_fault options_of parts_from is_utf8 chars encode_utf8
 two_apart = refl
+
+check_apart : word_fault (codes "--sp-file=p" ∷ codes "--in-place" ∷ codes "--check" ∷ codes "k.c" ∷ []) ≡ Some (Apart name.Check name.InPlace)
+unfolding word_fault fault_from options_fault options_of parts_from is_utf8 chars encode_utf8
+check_apart = refl
+
+-- what is about `--functions` and `--generate` is told first
+functions_before : word_fault (codes "--sp-file=p" ∷ codes "--in-place" ∷ codes "--check" ∷ codes "--functions=1" ∷ codes "k.c" ∷ [])
+    ≡ Some (ApartFromFiles name.Functions)
+unfolding word_fault fault_from options_fault options_of parts_from is_utf8 chars encode_utf8
+functions_before = refl
+
+generate_and_check : word_fault (codes "--generate=1" ∷ codes "--functions=1" ∷ codes "--check" ∷ codes "--sp-file=p" ∷ [])
+    ≡ Some (Apart name.Generate name.Check)
+unfolding word_fault fault_from options_fault options_of parts_from is_utf8 chars encode_utf8
+generate_and_check = refl
+
+quiet_needs_a_patch : word_fault (codes "--generate=1" ∷ codes "--functions=1" ∷ codes "--quiet" ∷ []) ≡ Some (Needed need.Patch)
+unfolding word_fault fault_from options_fault options_of parts_from is_utf8 chars encode_utf8
+quiet_needs_a_patch = refl
 
 -- words are counted from 1, and one that isn't UTF-8 is told first
 second_word : word_fault (codes "--bogus" ∷ (255 ∷ []) ∷ []) ≡ Some (NotText 2)

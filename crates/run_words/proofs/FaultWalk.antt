@@ -7,7 +7,7 @@ use Rattle.run_words.specs.declared.fault.WordFault.TheVariants.{StandsTwice, Va
 use Rattle.run_words.specs.Parts.{Word, End, Awaits, Has, Bare, Plain, Unknown, is_option, word_of}
 use Rattle.run_words.specs.OptionNames.{dashed}
 use Rattle.run_words.specs.Faults.{fault_at, fault_from, twice_or}
-use Rattle.run_words.specs.Forms.{Going, Over, after_one, behind, behind_value, ended, with_name, without_value}
+use Rattle.run_words.specs.Forms.{Going, Over, after_one, after_other, after_value, ended, with_name, without_value}
 
 -- a walk that is over stays so
 over_law : (fault : Option WordFault) (words : List (List ℕ)) → fold after_one (Over fault) words ≡ Over fault
@@ -27,7 +27,7 @@ named_law words finds names name = elim (is_in names name) as (λ b.
     ]
 
 kind_law : (kind : Word) (word : List ℕ) (words : List (List ℕ)) → Finds words → (names : List (List ℕ))
-    → ended (fold after_one (behind kind word names) words) ≡ fault_at kind word names (fault_from words)
+    → ended (fold after_one (after_other kind word names) words) ≡ fault_at kind word names (fault_from words)
 kind_law End word words finds names = ap ended (over_law None words)
 kind_law (Awaits name) word words finds names = finds names (Some name)
 kind_law (Has name value) word words finds names = named_law words finds names name
@@ -36,7 +36,7 @@ kind_law Plain word words finds names = finds names None
 kind_law Unknown word words finds names = ap ended (over_law _ words)
 
 value_law : (word : List ℕ) (words : List (List ℕ)) → Finds words → (names : List (List ℕ)) (name : List ℕ)
-    → ended (fold after_one (behind_value names name word) words)
+    → ended (fold after_one (after_value names name word) words)
     ≡ cond (is_option word) (Some (ValueAbsent (dashed name))) (twice_or names name (λ ns. fault_from words ns None))
 value_law word words finds names name = elim (is_option word) as (λ b.
     ended (fold after_one (cond b (Over (Some (ValueAbsent (dashed name)))) (with_name names name)) words)
@@ -53,10 +53,10 @@ walk_law (word ∷ words) names None = kind_law (word_of word) word words (walk_
 walk_law (word ∷ words) names (Some name) = value_law word words (walk_law words) names name
 
 -- an option with its value leads where one without leads
-pub same_behind : (kind : Word) (word : List ℕ) (names : List (List ℕ)) → behind (without_value kind) word names ≡ behind kind word names
-same_behind End word names = refl
-same_behind (Awaits name) word names = refl
-same_behind (Has name value) word names = refl
-same_behind (Bare name) word names = refl
-same_behind Plain word names = refl
-same_behind Unknown word names = refl
+pub same_after_other : (kind : Word) (word : List ℕ) (names : List (List ℕ)) → after_other (without_value kind) word names ≡ after_other kind word names
+same_after_other End word names = refl
+same_after_other (Awaits name) word names = refl
+same_after_other (Has name value) word names = refl
+same_after_other (Bare name) word names = refl
+same_after_other Plain word names = refl
+same_after_other Unknown word names = refl

@@ -2,7 +2,7 @@
 use Rattle.std.proofs.Common.{◌≡◌, ℕ, true, cond, eqb, List, [], ◌∷◌, map, Option, Some, None, IfSome, option_map}
 use Rattle.std.proofs.lemmas.Bool.{cond_both}
 use Rattle.c_lexer.specs.Words.{is_in}
-use Rattle.run_words.specs.Parts.{Part, Valued, Flag, File, Word, End, Awaits, Has, Bare, Plain, Unknown, after_word, behind_sign, flag_options, is_option}
+use Rattle.run_words.specs.Parts.{Part, Valued, Flag, File, Word, End, Awaits, Has, Bare, Plain, Unknown, after_word, after_sign, flag_options, is_option}
 use Rattle.run_words.specs.Parts.{name_part, named, option_word, parts_from, value_part, valued_options, word_of}
 
 abbrev pub IsKnown : Part → Type 0
@@ -27,15 +27,15 @@ named_known name None = cond_both (is_in valued_options name) (Awaits name) (con
     (λ e. e) (λ e. cond_both (is_in flag_options name) (Bare name) Unknown HasKnown (λ f. f) (λ f. tt))
 named_known name (Some value) = cond_both (is_in valued_options name) (Has name value) Unknown HasKnown (λ e. e) (λ e. tt)
 
-behind_known : (bytes : List ℕ) → HasKnown (behind_sign bytes)
-behind_known [] = tt
-behind_known (b ∷ []) = cond_both (eqb b 45) End Unknown HasKnown (λ e. tt) (λ e. tt)
-behind_known (b ∷ c ∷ bytes) = cond_both (eqb b 45) (named (name_part (c ∷ bytes)) (value_part (c ∷ bytes))) Unknown HasKnown
+after_sign_known : (bytes : List ℕ) → HasKnown (after_sign bytes)
+after_sign_known [] = tt
+after_sign_known (b ∷ []) = cond_both (eqb b 45) End Unknown HasKnown (λ e. tt) (λ e. tt)
+after_sign_known (b ∷ c ∷ bytes) = cond_both (eqb b 45) (named (name_part (c ∷ bytes)) (value_part (c ∷ bytes))) Unknown HasKnown
     (λ e. named_known (name_part (c ∷ bytes)) (value_part (c ∷ bytes))) (λ e. tt)
 
 option_known : (word : List ℕ) → HasKnown (option_word word)
 option_known [] = tt
-option_known (b ∷ bytes) = behind_known bytes
+option_known (b ∷ bytes) = after_sign_known bytes
 
 word_known : (word : List ℕ) → HasKnown (word_of word)
 word_known word = cond_both (is_option word) (option_word word) Plain HasKnown (λ e. option_known word) (λ e. tt)

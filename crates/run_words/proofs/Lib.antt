@@ -17,3 +17,4 @@ pub mod OptionLaws
 pub mod Told
 pub mod Examples
 pub mod JobLaws
+pub mod FlagLaws

@@ -3,26 +3,28 @@ use Rattle.std.proofs.Common.{◌≡◌, ◌∙◌, refl, sym, ap, ℕ, Bool, tr
 use Rattle.std.proofs.Common.{option_and_then}
 use Rattle.std.specs.Option.{option_map_or}
 use Rattle.std.proofs.lemmas.Bool.{or_parts}
-use Rattle.run_words.specs.declared.option_name.OptionName.TheVariants.{Define, Jobs, Generate, Functions, IsoFile, Witnesses, InPlace}
+use Rattle.run_words.specs.declared.option_name.OptionName.TheVariants.{Define, Jobs, Generate, Functions, IsoFile, Witnesses, InPlace, Check}
 use Rattle.run_words.specs.declared.fault.WordFault.TheVariants.{Apart, ApartFromFiles}
 use Rattle.run_words.specs.Options.{Options}
 use Rattle.run_words.specs.Values.{seed_in, count_in}
-use Rattle.run_words.specs.Orders.{Order, Apply, OnText, Generate as AskedGenerate, are_filled, editing, generating, has_files, has_jobs, is_about_files}
+use Rattle.run_words.specs.Orders.{Order, Apply, OnText, Generate as AskedGenerate, are_filled, editing, generating, has_files, has_jobs}
+use Rattle.run_words.specs.Orders.{is_about_files, is_about_patches}
 use Rattle.run_words.specs.Orders.{most_functions, on_text, working}
 use Rattle.run_words.specs.OptionNames.{first_of}
-use Rattle.run_words.specs.Faults.{apart_fault, file_faults, need_fault, told_if, value_fault}
+use Rattle.run_words.specs.Faults.{apart_fault, edit_faults, file_faults, need_fault, value_fault}
 use Rattle.run_words.proofs.ValueLaws.{bad, both_or, fine, none_fine, or_last, some_cond, some_first, some_need, some_then}
 use Rattle.run_words.proofs.ValueLaws.{some_three, some_told, some_unless, values_left}
 
-by_patch : (patch : Option (List ℕ)) (jobs : Bool) (seed functions : ℕ)
-    → is_some (option_map_or (λ name. Some (Apply name None [] (OnText seed functions))) patch (cond jobs None (Some (AskedGenerate seed functions))))
-    ≡ not (not (is_some patch) && jobs)
-by_patch (Some name) jobs seed functions = refl
-by_patch None true seed functions = refl
-by_patch None false seed functions = refl
+by_patch : (patch : Option (List ℕ)) (quiet about : Bool) (seed functions : ℕ)
+    → is_some (option_map_or (λ name. Some (Apply name None [] (OnText seed functions quiet))) patch
+    (cond about None (Some (AskedGenerate seed functions))))
+    ≡ not (not (is_some patch) && about)
+by_patch (Some name) quiet about seed functions = refl
+by_patch None quiet true seed functions = refl
+by_patch None quiet false seed functions = refl
 
-text_some : (o : Options) (seed functions : ℕ) → is_some (on_text o seed functions) ≡ not (not (is_some o.sp_file) && is_some o.jobs)
-text_some o seed functions = by_patch o.sp_file (is_some o.jobs) seed functions
+text_some : (o : Options) (seed functions : ℕ) → is_some (on_text o seed functions) ≡ not (not (is_some o.sp_file) && is_about_patches o)
+text_some o seed functions = by_patch o.sp_file o.quiet (is_about_patches o) seed functions
 
 counted : (functions : Option (List ℕ)) (next : ℕ → Option Order) (b : Bool) → ((n : ℕ) → is_some (next n) ≡ b)
     → is_some (option_and_then (λ text. option_and_then next (count_in most_functions text)) functions)
@@ -31,25 +33,26 @@ counted None next b h = refl
 counted (Some text) next b h = some_then next (count_in most_functions text) b h
 
 some_generating : (o : Options) (value : List ℕ) → is_some (generating o value) ≡ (not (is_about_files o) && (is_some (seed_in value)
-    && (is_some (option_and_then (count_in most_functions) o.functions) && not (not (is_some o.sp_file) && is_some o.jobs))))
+    && (is_some (option_and_then (count_in most_functions) o.functions) && not (not (is_some o.sp_file) && is_about_patches o))))
 some_generating o value =
     some_unless (is_about_files o) _ ∙ ap (λ b. not (is_about_files o) && b) (some_then _ (seed_in value) _ (λ seed.
-    counted o.functions (on_text o seed) (not (not (is_some o.sp_file) && is_some o.jobs)) (text_some o seed)))
+    counted o.functions (on_text o seed) (not (not (is_some o.sp_file) && is_about_patches o)) (text_some o seed)))
 
-or_end : (a b c d e : Bool) → (a || (b || (c || (d || (e || false))))) ≡ (a || b || c || d || e)
-or_end true b c d e = refl
-or_end false true c d e = refl
-or_end false false true d e = refl
-or_end false false false true e = refl
-or_end false false false false true = refl
-or_end false false false false false = refl
+or_end : (a b c d e f : Bool) → (a || (b || (c || (d || (e || (f || false)))))) ≡ (a || b || c || d || e || f)
+or_end true b c d e f = refl
+or_end false true c d e f = refl
+or_end false false true d e f = refl
+or_end false false false true e f = refl
+or_end false false false false true f = refl
+or_end false false false false false true = refl
+or_end false false false false false false = refl
 
 some_apart : (o : Options) → is_some (first_of (file_faults o)) ≡ is_about_files o
 some_apart o = some_first (file_faults o)
     ∙ (both_or (some_told (has_files o) (ApartFromFiles Generate)) (both_or (some_told (is_some o.iso_file) (Apart Generate IsoFile))
     (both_or (some_told (is_some o.define) (Apart Generate Define)) (both_or (some_told o.witnesses (Apart Generate Witnesses))
-    (both_or (some_told o.in_place (Apart Generate InPlace)) refl))))
-    ∙ or_end (has_files o) (is_some o.iso_file) (is_some o.define) o.witnesses o.in_place)
+    (both_or (some_told o.in_place (Apart Generate InPlace)) (both_or (some_told o.check (Apart Generate Check)) refl)))))
+    ∙ or_end (has_files o) (is_some o.iso_file) (is_some o.define) o.witnesses o.in_place o.check)
 
 -- by whether the number of jobs is one, the seed is, and a patch is needed
 no_count_table : (j g n : Bool) → ((not j || (not g || (false || false)))
@@ -114,7 +117,8 @@ seeded_need false false false false = refl
 
 about_fine : (o : Options) → is_about_files o ≡ false → fine Define o.define ≡ true
 about_fine o none =
-    let four = or_parts (has_files o || is_some o.iso_file || is_some o.define || o.witnesses) o.in_place none in
+    let five = or_parts (has_files o || is_some o.iso_file || is_some o.define || o.witnesses || o.in_place) o.check none in
+    let four = or_parts (has_files o || is_some o.iso_file || is_some o.define || o.witnesses) o.in_place five.0 in
     let three = or_parts (has_files o || is_some o.iso_file || is_some o.define) o.witnesses four.0 in
     let two = or_parts (has_files o || is_some o.iso_file) (is_some o.define) three.0 in
     none_fine Define o.define two.1
@@ -132,16 +136,16 @@ pub seeded_law : (o : Options) (value : List ℕ) → are_filled o ≡ true → 
     → is_some (first_of (value_fault o ∷ need_fault o ∷ apart_fault o ∷ [])) ≡ not (is_some (working o))
 unfolding working
 seeded_law o value filled some =
-    let patch_needed = not (is_some o.sp_file) && is_some o.jobs in
+    let patch_needed = not (is_some o.sp_file) && is_about_patches o in
     let values : is_some (value_fault o) ≡ (bad Define o.define
     || (bad Jobs o.jobs || (not (is_some (seed_in value)) || (bad Functions o.functions || false)))) =
     values_left o filled ∙ ap (λ g. bad Define o.define || (bad Jobs o.jobs || (bad Generate g || (bad Functions o.functions || false)))) some in
     let need : is_some (need_fault o) ≡ (patch_needed || (false || (not (is_some o.functions) || false))) = some_need o
-    ∙ (ap (λ g. (not (is_some o.sp_file) && (not (is_some g) || is_some o.jobs)) || ((not (has_files o) && not (is_some g))
+    ∙ (ap (λ g. (not (is_some o.sp_file) && (not (is_some g) || is_about_patches o)) || ((not (has_files o) && not (is_some g))
     || ((not (is_some o.functions) && is_some g) || false))) some
-    ∙ seeded_need (is_some o.sp_file) (is_some o.jobs) (has_files o) (is_some o.functions)) in
+    ∙ seeded_need (is_some o.sp_file) (is_about_patches o) (has_files o) (is_some o.functions)) in
     let apart : is_some (apart_fault o) ≡ is_about_files o =
-    ap (λ g. is_some (cond (is_some g) (first_of (file_faults o)) (told_if (is_some o.functions) (ApartFromFiles Functions)))) some
+    ap (λ g. is_some (cond (is_some g) (first_of (file_faults o)) (first_of (edit_faults o)))) some
     ∙ some_apart o in
     let asked : is_some (working o) ≡ (has_jobs o && (not (is_about_files o) && (is_some (seed_in value)
     && (is_some (option_and_then (count_in most_functions) o.functions) && not patch_needed)))) =

@@ -12,7 +12,7 @@ use Rattle.run_words.specs.declared.fault.WordFault.{WordFault}
 use Rattle.run_words.specs.declared.fault.WordFault.TheVariants.{BadValue, Needed}
 use Rattle.run_words.specs.Options.{Options}
 use Rattle.run_words.specs.Values.{seed_in, count_in, names_in}
-use Rattle.run_words.specs.Orders.{are_filled, has_files, is_filled, most_functions, most_jobs}
+use Rattle.run_words.specs.Orders.{are_filled, has_files, is_about_patches, is_filled, most_functions, most_jobs}
 use Rattle.run_words.specs.OptionNames.{first_of}
 use Rattle.run_words.specs.Faults.{apart_fault, bad_text, is_value, need_fault, need_faults, told_if, value_fault, value_faults}
 
@@ -216,9 +216,9 @@ values_left o filled =
     some_value o ∙ (ap (λ (b : Bool). not b || (bad IsoFile o.iso_file || rest)) (patch_fine o.sp_file one.0)
     ∙ ap (λ (b : Bool). not b || rest) (isos_fine o.iso_file one.1))
 
-pub some_need : (o : Options) → is_some (need_fault o) ≡ ((not (is_some o.sp_file) && (not (is_some o.generate) || is_some o.jobs))
+pub some_need : (o : Options) → is_some (need_fault o) ≡ ((not (is_some o.sp_file) && (not (is_some o.generate) || is_about_patches o))
     || ((not (has_files o) && not (is_some o.generate)) || ((not (is_some o.functions) && is_some o.generate) || false)))
 some_need o = some_first (need_faults o)
-    ∙ both_or (some_told (not (is_some o.sp_file) && (not (is_some o.generate) || is_some o.jobs)) (Needed need.Patch))
+    ∙ both_or (some_told (not (is_some o.sp_file) && (not (is_some o.generate) || is_about_patches o)) (Needed need.Patch))
     (both_or (some_told (not (has_files o) && not (is_some o.generate)) (Needed need.File))
     (both_or (some_told (not (is_some o.functions) && is_some o.generate) (Needed need.Functions)) refl))

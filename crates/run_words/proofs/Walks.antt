@@ -14,7 +14,7 @@ use Rattle.clap.specs.Walk.{Held, Row, Rule, Step, Text, Waiting, Walk, arg_by_i
 use Rattle.clap.specs.Walk.{plain_word, positional, settled_rows, subcommand_met, to_positional, used, value, walked}
 use Rattle.clap.specs.Faults.{bundle_fault, flags_fault, long_fault, settle_fault, step_fault, turn_fault, use_fault, walk_fault}
 use Rattle.clap.specs.Simple.{Shape}
-use Rattle.run_words.specs.Parts.{Part, Valued, Flag, File, Word, Unknown, after_word, behind_sign, flag_options, is_option, name_part, named, parts_from}
+use Rattle.run_words.specs.Parts.{Part, Valued, Flag, File, Word, Unknown, after_word, after_sign, flag_options, is_option, name_part, named, parts_from}
 use Rattle.run_words.specs.Parts.{value_part, valued_options}
 use Rattle.run_words.proofs.Rules.{Serves, file_rule, flag_rule, valued_rule}
 
@@ -150,7 +150,7 @@ by_word P plain short dashes long (a ∷ []) = one_byte P plain a
 by_word P plain short dashes long (a ∷ b ∷ bytes) = by_first P plain (by_second P short dashes long) a b bytes
 
 -- a word with one `-` followed by another byte isn't a part
-sign_unknown : (b : ℕ) (bytes : Text) → (b == 45) ≡ false → behind_sign (b ∷ bytes) ≡ Unknown
+sign_unknown : (b : ℕ) (bytes : Text) → (b == 45) ≡ false → after_sign (b ∷ bytes) ≡ Unknown
 sign_unknown b [] h = rw h refl
 sign_unknown b (c ∷ bytes) h = rw h refl
 

@@ -27,7 +27,7 @@ is_in_append (n ∷ names) last name = elim (bytes_eq name n) as (λ b. (b || is
 have_same : (names others : List Text) (name : Text) → HaveSame names others → HaveSame (names ++ name ∷ []) (name ∷ others)
 have_same names others name same n = is_in_append names name n ∙ ap (λ b. bytes_eq n name || b) (same n)
 
--- there are parts, and they are new behind these names
+-- there are parts, and they are new after these names
 abbrev fits : List Text → Option (List Part) → Bool
 fits names None = false
 fits names (Some parts) = are_new names parts

@@ -5,7 +5,7 @@ use Rattle.std.specs.Option.{option_or}
 use Rattle.std.specs.Str.{bytes_eq, is_utf8}
 use Rattle.c_lexer.specs.Words.{is_in}
 use Rattle.run_words.specs.declared.option_name.OptionName.{OptionName}
-use Rattle.run_words.specs.declared.option_name.OptionName.TheVariants.{SpFile, IsoFile, Define, Jobs, Generate, Functions, Witnesses, InPlace}
+use Rattle.run_words.specs.declared.option_name.OptionName.TheVariants.{SpFile, IsoFile, Define, Jobs, Generate, Functions, Witnesses, InPlace, Check}
 use Rattle.run_words.specs.declared.fault.Need.TheVariants as need
 use Rattle.run_words.specs.declared.fault.WordFault.{WordFault}
 use Rattle.run_words.specs.declared.fault.WordFault.TheVariants.{NotText, NoSuchOption, ValueAbsent, TakesNone, StandsTwice}
@@ -13,7 +13,7 @@ use Rattle.run_words.specs.declared.fault.WordFault.TheVariants.{BadValue, Neede
 use Rattle.run_words.specs.Parts.{Word, End, Awaits, Has, Bare, Plain, Unknown, is_option, word_of, flag_options}
 use Rattle.run_words.specs.Options.{Options, options_of}
 use Rattle.run_words.specs.Values.{seed_in, count_in, names_in}
-use Rattle.run_words.specs.Orders.{is_filled, are_filled, asks_text, has_files, most_jobs, most_functions}
+use Rattle.run_words.specs.Orders.{is_filled, are_filled, asks_text, has_files, is_about_patches, stores_checked, most_jobs, most_functions}
 use Rattle.run_words.specs.OptionNames.{dashed, first_of, written, meant_by}
 
 -- ---- by the words in turn
@@ -26,11 +26,11 @@ is_flag text = list_any (λ name. bytes_eq text (dashed name)) flag_options
 abbrev pub unknown_fault : List ℕ → WordFault
 unknown_fault word = cond (is_flag (written word)) (TakesNone (written word)) (NoSuchOption (written word) (meant_by (written word)))
 
--- an option stands twice if one of this name came before; `next` is the fault behind it
+-- an option stands twice if one of this name came before; `next` is the fault after it
 abbrev pub twice_or : List (List ℕ) → List ℕ → (List (List ℕ) → Option WordFault) → Option WordFault
 twice_or names name next = cond (is_in names name) (Some (StandsTwice (dashed name))) (next (names ++ name ∷ []))
 
--- the fault at a word, by its kind, or the first behind it
+-- the fault at a word, by its kind, or the first after it
 abbrev pub fault_at : Word → List ℕ → List (List ℕ) → (List (List ℕ) → Option (List ℕ) → Option WordFault) → Option WordFault
 fault_at End word names next = None
 fault_at (Awaits name) word names next = next names (Some name)
@@ -39,7 +39,7 @@ fault_at (Bare name) word names next = twice_or names name (λ ns. next ns None)
 fault_at Plain word names next = next names None
 fault_at Unknown word names next = Some (unknown_fault word)
 
--- the first fault at these words, behind options of these names; if an option expects its value, the first word is that value
+-- the first fault at these words, after options of these names; if an option expects its value, the first word is that value
 unfoldable pub fault_from : List (List ℕ) → List (List ℕ) → Option (List ℕ) → Option WordFault
 fault_from [] names None = None
 fault_from [] names (Some name) = Some (ValueAbsent (dashed name))
@@ -72,9 +72,9 @@ value_fault o = first_of (value_faults o)
 abbrev pub told_if : Bool → WordFault → Option WordFault
 told_if holds fault = cond holds (Some fault) None
 
--- a patch is needed without `--generate`, and for `--jobs`; a file without `--generate`; and the number of functions with it
+-- a patch is needed without `--generate`, and for `--jobs` and `--quiet`; a file without `--generate`; and the number of functions with it
 abbrev pub lacks_patch : Options → Bool
-lacks_patch o = not (is_some o.sp_file) && (not (is_some o.generate) || is_some o.jobs)
+lacks_patch o = not (is_some o.sp_file) && (not (is_some o.generate) || is_about_patches o)
 
 abbrev pub lacks_file : Options → Bool
 lacks_file o = not (has_files o) && not (is_some o.generate)
@@ -95,11 +95,15 @@ need_fault o = first_of (need_faults o)
 abbrev pub file_faults : Options → List (Option WordFault)
 file_faults o = told_if (has_files o) (ApartFromFiles Generate) ∷ told_if (is_some o.iso_file) (Apart Generate IsoFile)
     ∷ told_if (is_some o.define) (Apart Generate Define) ∷ told_if o.witnesses (Apart Generate Witnesses)
-    ∷ told_if o.in_place (Apart Generate InPlace) ∷ []
+    ∷ told_if o.in_place (Apart Generate InPlace) ∷ told_if o.check (Apart Generate Check) ∷ []
 
--- the first two things that don't go together; `--functions` is only allowed with `--generate`, and so without a file
+-- `--functions` is only allowed with `--generate`, and so without a file
+abbrev pub edit_faults : Options → List (Option WordFault)
+edit_faults o = told_if (is_some o.functions) (ApartFromFiles Functions) ∷ told_if (stores_checked o) (Apart Check InPlace) ∷ []
+
+-- the first two things that don't go together
 abbrev pub apart_fault : Options → Option WordFault
-apart_fault o = cond (is_some o.generate) (first_of (file_faults o)) (told_if (is_some o.functions) (ApartFromFiles Functions))
+apart_fault o = cond (is_some o.generate) (first_of (file_faults o)) (first_of (edit_faults o))
 
 -- a text about the program is asked for, and no value is empty
 abbrev pub asks_only : Options → Bool

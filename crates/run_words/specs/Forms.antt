@@ -27,7 +27,7 @@ shown_form (form.Named name) = Bare name.now
 shown_form form.Plain = Plain
 shown_form form.Unknown = Unknown
 
--- how far the walk has come: behind options of these names, and with an option whose value is the next word; or it is over
+-- how far the walk has come: after options of these names, and with an option whose value is the next word; or it is over
 pub data State : Type 0 where
   Going : (names : List (List ℕ)) (awaits : Option (List ℕ)) → State
   Over : (fault : Option WordFault) → State
@@ -36,27 +36,27 @@ abbrev pub shown_walk : Walk → State
 shown_walk (walk.Going names awaits) = Going (map (λ name. name.now) names.items) (option_map (λ name. name.now) awaits)
 shown_walk (walk.Over fault) = Over fault
 
--- behind an option of this name
+-- after an option of this name
 abbrev pub with_name : List (List ℕ) → List ℕ → State
 with_name names name = cond (is_in names name) (Over (Some (StandsTwice (dashed name)))) (Going (names ++ name ∷ []) None)
 
--- behind a word that is no value, by its kind
-abbrev pub behind : Word → List ℕ → List (List ℕ) → State
-behind End word names = Over None
-behind (Awaits name) word names = Going names (Some name)
-behind (Has name value) word names = with_name names name
-behind (Bare name) word names = with_name names name
-behind Plain word names = Going names None
-behind Unknown word names = Over (Some (unknown_fault word))
+-- after a word that is no value, by its kind
+abbrev pub after_other : Word → List ℕ → List (List ℕ) → State
+after_other End word names = Over None
+after_other (Awaits name) word names = Going names (Some name)
+after_other (Has name value) word names = with_name names name
+after_other (Bare name) word names = with_name names name
+after_other Plain word names = Going names None
+after_other Unknown word names = Over (Some (unknown_fault word))
 
--- behind a word where a value is expected
-abbrev pub behind_value : List (List ℕ) → List ℕ → List ℕ → State
-behind_value names name word = cond (is_option word) (Over (Some (ValueAbsent (dashed name)))) (with_name names name)
+-- after a word where a value is expected
+abbrev pub after_value : List (List ℕ) → List ℕ → List ℕ → State
+after_value names name word = cond (is_option word) (Over (Some (ValueAbsent (dashed name)))) (with_name names name)
 
 abbrev pub after_one : State → List ℕ → State
 after_one (Over fault) word = Over fault
-after_one (Going names None) word = behind (word_of word) word names
-after_one (Going names (Some name)) word = behind_value names name word
+after_one (Going names None) word = after_other (word_of word) word names
+after_one (Going names (Some name)) word = after_value names name word
 
 -- the fault if there are no more words, but an option may expect its value
 abbrev pub awaited : Option (List ℕ) → Option WordFault

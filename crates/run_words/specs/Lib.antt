@@ -12,5 +12,6 @@ pub mod Shown
 pub mod Forms
 -- For internal use: the command as clap represents it.
 pub mod Commands
--- What job_laws defines.
+-- What job_laws and flag_laws define.
 pub mod JobLaws
+pub mod FlagLaws

@@ -13,6 +13,8 @@ pub record Options : Type 0 where
   pub functions : Option (List ℕ)
   pub witnesses : Bool
   pub in_place : Bool
+  pub check : Bool
+  pub quiet : Bool
   pub help : Bool
   pub version : Bool
   -- in this order
@@ -55,6 +57,8 @@ collected parts = record {
   functions = value_of (codes "functions") parts;
   witnesses = has_flag (codes "witnesses") parts;
   in_place = has_flag (codes "in-place") parts;
+  check = has_flag (codes "check") parts;
+  quiet = has_flag (codes "quiet") parts;
   help = has_flag (codes "help") parts;
   version = has_flag (codes "version") parts;
   files = files_in parts;

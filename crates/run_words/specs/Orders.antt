@@ -13,8 +13,8 @@ use Rattle.run_words.specs.Values.{seed_in, count_in, decimal_value, names_in}
 pub data Target : Type 0 where
   -- files, in this order
   OnFiles : (mode : Mode) (names : List (List ℕ)) → Target
-  -- the text that is generated from this seed, with this many functions
-  OnText : (seed functions : ℕ) → Target
+  -- the text that is generated from this seed, with this many functions; whether further lines are left out
+  OnText : (seed functions : ℕ) (quiet : Bool) → Target
 
 pub data Order : Type 0 where
   -- the patch of this name, under the isomorphisms of this name, with these virtual names, is applied
@@ -23,6 +23,11 @@ pub data Order : Type 0 where
   Generate : (seed functions : ℕ) → Order
   -- a text about the program is printed
   Say : (saying : Saying) → Order
+
+-- the lines that say more are left out
+abbrev pub is_quiet : Target → Bool
+is_quiet (OnFiles mode names) = mode.quiet
+is_quiet (OnText seed functions quiet) = quiet
 
 -- ---- values
 
@@ -57,21 +62,29 @@ abbrev pub has_files : Options → Bool
 has_files o = nat_le 1 (length o.files)
 
 abbrev pub mode_in : Options → Mode
-mode_in o = record { witnesses = o.witnesses; in_place = o.in_place }
+mode_in o = record { witnesses = o.witnesses; in_place = o.in_place; check = o.check; quiet = o.quiet }
 
 -- something is given that is only allowed with files
 abbrev pub is_about_files : Options → Bool
-is_about_files o = has_files o || is_some o.iso_file || is_some o.define || o.witnesses || o.in_place
+is_about_files o = has_files o || is_some o.iso_file || is_some o.define || o.witnesses || o.in_place || o.check
+
+-- nothing is stored under `--check`, so it doesn't go with `--in-place`
+abbrev pub stores_checked : Options → Bool
+stores_checked o = o.check && o.in_place
+
+-- something is given that is only allowed with a patch
+abbrev pub is_about_patches : Options → Bool
+is_about_patches o = is_some o.jobs || o.quiet
 
 -- without `--generate`: a patch and a file are required
 abbrev pub editing : Options → Option Order
-editing o = cond (has_files o && not (is_some o.functions))
+editing o = cond (has_files o && not (is_some o.functions) && not (stores_checked o))
     (option_and_then (λ patch. option_map (λ defined. Apply patch o.iso_file defined (OnFiles (mode_in o) o.files)) (defined_in o)) o.sp_file) None
 
 -- with `--generate`: the text is printed, or a patch is applied to it
 abbrev pub on_text : Options → ℕ → ℕ → Option Order
-on_text o seed functions = option_map_or (λ patch. Some (Apply patch None [] (OnText seed functions))) o.sp_file
-    (cond (is_some o.jobs) None (Some (Generate seed functions)))
+on_text o seed functions = option_map_or (λ patch. Some (Apply patch None [] (OnText seed functions o.quiet))) o.sp_file
+    (cond (is_about_patches o) None (Some (Generate seed functions)))
 
 abbrev pub generating : Options → List ℕ → Option Order
 generating o value = cond (is_about_files o) None

@@ -32,7 +32,7 @@ abbrev pub valued_options : List (List ℕ)
 valued_options = codes "sp-file" ∷ codes "iso-file" ∷ codes "define" ∷ codes "jobs" ∷ codes "generate" ∷ codes "functions" ∷ []
 
 abbrev pub flag_options : List (List ℕ)
-flag_options = codes "witnesses" ∷ codes "in-place" ∷ codes "help" ∷ codes "version" ∷ []
+flag_options = codes "witnesses" ∷ codes "in-place" ∷ codes "check" ∷ codes "quiet" ∷ codes "help" ∷ codes "version" ∷ []
 
 -- the word begins with `-` and is longer than one byte
 abbrev pub is_option : List ℕ → Bool
@@ -53,14 +53,14 @@ named name None = cond (is_in valued_options name) (Awaits name) (cond (is_in fl
 named name (Some value) = cond (is_in valued_options name) (Has name value) Unknown
 
 -- an option by what follows its first `-`
-abbrev pub behind_sign : List ℕ → Word
-behind_sign [] = Unknown
-behind_sign (b ∷ []) = cond (b == 45) End Unknown
-behind_sign (b ∷ c ∷ bytes) = cond (b == 45) (named (name_part (c ∷ bytes)) (value_part (c ∷ bytes))) Unknown
+abbrev pub after_sign : List ℕ → Word
+after_sign [] = Unknown
+after_sign (b ∷ []) = cond (b == 45) End Unknown
+after_sign (b ∷ c ∷ bytes) = cond (b == 45) (named (name_part (c ∷ bytes)) (value_part (c ∷ bytes))) Unknown
 
 abbrev pub option_word : List ℕ → Word
 option_word [] = Plain
-option_word (b ∷ bytes) = behind_sign bytes
+option_word (b ∷ bytes) = after_sign bytes
 
 abbrev pub word_of : List ℕ → Word
 word_of word = cond (is_option word) (option_word word) Plain
@@ -72,12 +72,12 @@ with_part part parts = option_map (λ ps. part ∷ ps) parts
 
 -- this word and those after it, by its kind; `next` reads those after it, the first of which may be the value of an option
 abbrev pub after_word : Word → List ℕ → List (List ℕ) → (Option (List ℕ) → Option (List Part)) → Option (List Part)
-after_word End word behind next = Some (map File behind)
-after_word (Awaits name) word behind next = next (Some name)
-after_word (Has name value) word behind next = with_part (Valued name value) (next None)
-after_word (Bare name) word behind next = with_part (Flag name) (next None)
-after_word Plain word behind next = with_part (File word) (next None)
-after_word Unknown word behind next = None
+after_word End word later next = Some (map File later)
+after_word (Awaits name) word later next = next (Some name)
+after_word (Has name value) word later next = with_part (Valued name value) (next None)
+after_word (Bare name) word later next = with_part (Flag name) (next None)
+after_word Plain word later next = with_part (File word) (next None)
+after_word Unknown word later next = None
 
 -- the parts of these words; if an option expects its value, the first word is that value
 unfoldable pub parts_from : List (List ℕ) → Option (List ℕ) → Option (List Part)

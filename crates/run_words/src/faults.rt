@@ -13,7 +13,9 @@ use crate::option_name::{OptionName, meant_by};
 use crate::options::{Given, parse};
 use crate::values::{count, names, seed};
 use crate::walk::first_fault;
-use crate::words::{MOST_FUNCTIONS, MOST_JOBS, are_filled, asks_text, has_files};
+use crate::words::{
+    MOST_FUNCTIONS, MOST_JOBS, are_filled, asks_text, has_files, is_about_patches, stores_checked,
+};
 use c_terms::{NoMemory, Text};
 use std::alloc::Global;
 
@@ -110,7 +112,7 @@ fn need_fault(given: &Given<'_>) -> Option<WordFault>
 fn lacks_patch(given: &Given<'_>) -> bool
     ensures { result ≡ spec.lacks_patch (shown_options given.now) }
 {
-    given.sp_file.is_none() && (given.generate.is_none() || given.jobs.is_some())
+    given.sp_file.is_none() && (given.generate.is_none() || is_about_patches(given))
 }
 
 /// Whether a file is needed and absent.
@@ -134,8 +136,17 @@ fn apart_fault(given: &Given<'_>) -> Option<WordFault>
     if given.generate.is_some() {
         return file_fault(given);
     }
-    let functions = given.functions.is_some();
-    told_if(functions, WordFault::ApartFromFiles(OptionName::Functions))
+    edit_fault(given)
+}
+
+/// Returns the first two things that don't go together without `--generate`.
+fn edit_fault(given: &Given<'_>) -> Option<WordFault>
+    ensures { result ≡ first_of (spec.edit_faults (shown_options given.now)) }
+{
+    let alone = WordFault::ApartFromFiles(OptionName::Functions);
+    let functions = told_if(given.functions.is_some(), alone);
+    let stored = stores_checked(given);
+    functions.or(apart_if(stored, OptionName::Check, OptionName::InPlace))
 }
 
 /// Returns the first thing that is only allowed with files, and so doesn't go with a generated text.
@@ -148,6 +159,7 @@ fn file_fault(given: &Given<'_>) -> Option<WordFault>
         .or(apart_if(given.define.is_some(), generate, OptionName::Define))
         .or(apart_if(given.witnesses, generate, OptionName::Witnesses))
         .or(apart_if(given.in_place, generate, OptionName::InPlace))
+        .or(apart_if(given.check, generate, OptionName::Check))
 }
 
 /// Returns the fault of two options that don't go together, if it is one.

@@ -12,15 +12,18 @@
 //!
 //! Its folders:
 //!
+//! - `flag_laws`: Words that differ only in `--check` and `--quiet` ask for the same, but for these.
 //! - `job_laws`: Words that differ only in their jobs ask for the same.
 #![tactic(auto)]
 
 mod fault;
 mod faults;
+mod flag_laws;
 mod job_laws;
 mod option_name;
 mod options;
 mod order;
+mod quiet;
 mod values;
 mod walk;
 mod word;
@@ -28,6 +31,7 @@ mod words;
 
 pub use fault::{Need, WordFault};
 pub use faults::{faults_are_all, text_fault, word_fault};
+pub use flag_laws::flags_change_modes;
 pub use job_laws::jobs_leave_orders;
 pub use option_name::OptionName;
 pub use order::{Mode, Order, PatchOrder, Saying, Target};

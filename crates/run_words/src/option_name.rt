@@ -17,6 +17,8 @@ pub enum OptionName {
     Functions,
     Witnesses,
     InPlace,
+    Check,
+    Quiet,
     Help,
     Version,
 }
@@ -35,6 +37,8 @@ impl OptionName {
             OptionName::Functions => "--functions",
             OptionName::Witnesses => "--witnesses",
             OptionName::InPlace => "--in-place",
+            OptionName::Check => "--check",
+            OptionName::Quiet => "--quiet",
             OptionName::Help => "--help",
             OptionName::Version => "--version",
         }
@@ -93,6 +97,8 @@ pub fn meant_by(alloc: Global, word: &str) -> Result<Option<OptionName>, NoMemor
     let functions = near_one(alloc, word, OptionName::Functions)?;
     let witnesses = near_one(alloc, word, OptionName::Witnesses)?;
     let in_place = near_one(alloc, word, OptionName::InPlace)?;
+    let check = near_one(alloc, word, OptionName::Check)?;
+    let quiet = near_one(alloc, word, OptionName::Quiet)?;
     let help = near_one(alloc, word, OptionName::Help)?;
     let version = near_one(alloc, word, OptionName::Version)?;
     let valued = patch
@@ -101,5 +107,13 @@ pub fn meant_by(alloc: Global, word: &str) -> Result<Option<OptionName>, NoMemor
         .or(jobs)
         .or(generate)
         .or(functions);
-    Ok(valued.or(witnesses).or(in_place).or(help).or(version))
+    Ok(
+        valued
+            .or(witnesses)
+            .or(in_place)
+            .or(check)
+            .or(quiet)
+            .or(help)
+            .or(version),
+    )
 }

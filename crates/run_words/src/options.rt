@@ -52,6 +52,8 @@ fn command<'a>(alloc: Global) -> Result<Command<'a>, AllocError>
         .arg(valued(alloc, "functions"))?
         .arg(flag(alloc, "witnesses"))?
         .arg(flag(alloc, "in-place"))?
+        .arg(flag(alloc, "check"))?
+        .arg(flag(alloc, "quiet"))?
         .arg(flag(alloc, "help"))?
         .arg(flag(alloc, "version"))?
         .arg(files(alloc))
@@ -68,6 +70,8 @@ pub struct Given<'a> {
     pub functions: Option<&'a str>,
     pub witnesses: bool,
     pub in_place: bool,
+    pub check: bool,
+    pub quiet: bool,
     pub help: bool,
     pub version: bool,
     pub files: Vec<&'a str>,
@@ -96,6 +100,8 @@ fn read<'a>(alloc: Global, matches: &ArgMatches<'a>) -> Result<Given<'a>, AllocE
         functions: matches.get_str("functions"),
         witnesses: matches.get_flag("witnesses"),
         in_place: matches.get_flag("in-place"),
+        check: matches.get_flag("check"),
+        quiet: matches.get_flag("quiet"),
         help: matches.get_flag("help"),
         version: matches.get_flag("version"),
         files,

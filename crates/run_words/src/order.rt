@@ -3,12 +3,18 @@ ghost use Rattle.std.specs.Prelude.{◌≤◌};
 
 use c_terms::Text;
 
-/// How the result for an edited file is output: whether its witnesses are printed, and whether its text is stored under its
-/// name. With neither, its text is printed.
+/// How the result for an edited file is output. With none of the first three, its text is printed.
 #[derive(Clone, Copy, Debug, PartialEq, Eq)]
 pub struct Mode {
+    /// Its witnesses are printed.
     pub witnesses: bool,
+    /// Its text is stored under its name.
     pub in_place: bool,
+    /// Nothing is stored, and the status says whether something was found. Without `witnesses`, the name of the file is printed
+    /// if something was found in it.
+    pub check: bool,
+    /// The lines that say more are left out.
+    pub quiet: bool,
 }
 
 /// What a patch is applied to.
@@ -16,8 +22,9 @@ pub struct Mode {
 pub enum Target<'a> {
     /// Files, in this order.
     Files(Mode, Vec<&'a str>),
-    /// The text that is generated from this seed, with this many functions.
-    Text(u64, u32),
+    /// The text that is generated from this seed, with this many functions. The last says whether the lines that say more are
+    /// left out.
+    Text(u64, u32, bool),
 }
 
 /// A request to apply a patch.

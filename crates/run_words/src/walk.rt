@@ -73,7 +73,12 @@ fn written<'a>(word: &'a str) -> &'a str
 fn is_flag(text: &str) -> bool
     ensures { result ≡ spec.is_flag text.now }
 {
-    text == "--witnesses" || text == "--in-place" || text == "--help" || text == "--version"
+    text == "--witnesses"
+        || text == "--in-place"
+        || text == "--check"
+        || text == "--quiet"
+        || text == "--help"
+        || text == "--version"
 }
 
 /// Returns the fault at a word that is no option. Linear in the word.
@@ -88,7 +93,7 @@ fn unknown_fault(alloc: Global, word: &str) -> Result<WordFault, NoMemory>
     Ok(WordFault::NoSuchOption(text, meant_by(alloc, option)?))
 }
 
-/// Goes on behind an option of this name, which may stand twice.
+/// Goes on after an option of this name, which may stand twice.
 fn with_name<'a>(
     alloc: Global,
     mut names: Vec<&'a [u8]>,
@@ -104,14 +109,14 @@ fn with_name<'a>(
     Ok(Walk::Going(names, None))
 }
 
-/// Goes on behind a word that is the value of the option of this name. Linear in the word.
-fn behind_value<'a>(
+/// Goes on after a word that is the value of the option of this name. Linear in the word.
+fn after_value<'a>(
     alloc: Global,
     names: Vec<&'a [u8]>,
     name: &'a [u8],
     word: &'a str,
 ) -> Result<Walk<'a>, NoMemory>
-    ensures { IfOk result (λ next. shown_walk next ≡ forms.behind_value (map (λ n. n.now) names.entry.items) name.now word.now) }
+    ensures { IfOk result (λ next. shown_walk next ≡ forms.after_value (map (λ n. n.now) names.entry.items) name.now word.now) }
 {
     if is_option(word.as_bytes()) {
         let fault = value_absent(alloc, name)?;
@@ -120,9 +125,9 @@ fn behind_value<'a>(
     with_name(alloc, names, name)
 }
 
-/// Goes on behind a word that is no value. Linear in the word.
-fn behind<'a>(alloc: Global, names: Vec<&'a [u8]>, word: &'a str) -> Result<Walk<'a>, NoMemory>
-    ensures { IfOk result (λ next. shown_walk next ≡ forms.behind (word_of word.now) word.now (map (λ n. n.now) names.entry.items)) }
+/// Goes on after a word that is no value. Linear in the word.
+fn after_other<'a>(alloc: Global, names: Vec<&'a [u8]>, word: &'a str) -> Result<Walk<'a>, NoMemory>
+    ensures { IfOk result (λ next. shown_walk next ≡ forms.after_other (word_of word.now) word.now (map (λ n. n.now) names.entry.items)) }
 {
     match form_of(word.as_bytes()) {
         Form::End => Ok(Walk::Over(None)),
@@ -136,15 +141,15 @@ fn behind<'a>(alloc: Global, names: Vec<&'a [u8]>, word: &'a str) -> Result<Walk
     }
 }
 
-/// Goes on behind a word. Linear in the word.
+/// Goes on after a word. Linear in the word.
 fn after_one<'a>(alloc: Global, walk: Walk<'a>, word: &'a str) -> Result<Walk<'a>, NoMemory>
     ensures { IfOk result (λ next. shown_walk next ≡ forms.after_one (shown_walk walk.entry) word.now) }
 {
     match walk {
         Walk::Over(fault) => Ok(Walk::Over(fault)),
         Walk::Going(names, awaits) => match awaits {
-            None => behind(alloc, names, word),
-            Some(name) => behind_value(alloc, names, name, word),
+            None => after_other(alloc, names, word),
+            Some(name) => after_value(alloc, names, name, word),
         },
     }
 }

@@ -163,6 +163,21 @@ fn is_about_files(given: &Given<'_>) -> bool
         || given.define.is_some()
         || given.witnesses
         || given.in_place
+        || given.check
+}
+
+/// Whether a file is to be stored that is only to be checked.
+pub fn stores_checked(given: &Given<'_>) -> bool
+    ensures { result ≡ spec.stores_checked (shown_options given.now) }
+{
+    given.check && given.in_place
+}
+
+/// Whether something is given that is only allowed with a patch.
+pub fn is_about_patches(given: &Given<'_>) -> bool
+    ensures { result ≡ spec.is_about_patches (shown_options given.now) }
+{
+    given.jobs.is_some() || given.quiet
 }
 
 /// Returns what is asked for with a seed.
@@ -189,11 +204,11 @@ fn on_text<'a>(alloc: Global, given: &Given<'a>, seed: u64, functions: u32) -> O
             patch,
             isos: None,
             defined: Vec::new(alloc),
-            target: Target::Text(seed, functions),
+            target: Target::Text(seed, functions, given.quiet),
             jobs: jobs_of(given),
         })),
         None => {
-            if given.jobs.is_some() {
+            if is_about_patches(given) {
                 return None;
             }
             Some(Order::Generate(seed, functions))
@@ -207,7 +222,7 @@ fn editing<'a>(alloc: Global, given: Given<'a>) -> Result<Option<Order<'a>>, NoM
     ensures order { IfOk result (λ order. option_map shown_order order ≡ spec.editing (shown_options given.entry)) }
     ensures jobs { IfOk result (λ order. IfSome order (HasJobs (spec.jobs_in (shown_options given.entry)))) }
 {
-    if !has_files(&given) || given.functions.is_some() {
+    if !has_files(&given) || given.functions.is_some() || stores_checked(&given) {
         return Ok(None);
     }
     let Some(patch) = given.sp_file else {
@@ -220,6 +235,8 @@ fn editing<'a>(alloc: Global, given: Given<'a>) -> Result<Option<Order<'a>>, NoM
     let mode = Mode {
         witnesses: given.witnesses,
         in_place: given.in_place,
+        check: given.check,
+        quiet: given.quiet,
     };
     Ok(Some(Order::Apply(PatchOrder {
         patch,

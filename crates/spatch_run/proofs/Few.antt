@@ -1,6 +1,6 @@
 -- What words ask for: nothing if one of them isn't text, and generated texts of at most 100,000 functions.
 use Rattle.std.proofs.Common.{◌≡◌, ◌≤◌, Bool, true, false, ◌&&◌, ℕ, List, [], Option, Some, None, length, refl, arith, subst}
-use Rattle.std.specs.Prelude.{cond, not, nat_le, is_some, option_and_then, option_map}
+use Rattle.std.specs.Prelude.{cond, not, nat_le, option_and_then, option_map}
 use Rattle.std.specs.List.{list_all}
 use Rattle.std.specs.Str.{is_utf8}
 use Rattle.std.specs.Option.{option_map_or}
@@ -12,12 +12,12 @@ use Rattle.run_words.specs.Options.{Options, options_of}
 use Rattle.run_words.specs.Values.{count_in, seed_in, decimal_value, begins_with_zero}
 use Rattle.run_words.specs.declared.order.Saying.{Saying}
 use Rattle.run_words.specs.Orders.{Target, OnFiles, OnText, Order, Apply, Generate, Say, most_functions, are_filled, asks_text, has_jobs, saying_in, working}
-use Rattle.run_words.specs.Orders.{is_about_files, defined_in, editing, on_text, generating, ordered, order_of}
+use Rattle.run_words.specs.Orders.{is_about_files, is_about_patches, defined_in, editing, on_text, generating, ordered, order_of}
 use Rattle.run_words.specs.Shown.{shown_target, few_functions}
 
 abbrev HasFew : Target → Type 0
 HasFew (OnFiles mode names) = Unit {0}
-HasFew (OnText seed functions) = functions ≤ 100000
+HasFew (OnText seed functions quiet) = functions ≤ 100000
 
 abbrev AsksFew : Option Order → Type 0
 AsksFew None = Unit {0}
@@ -44,13 +44,14 @@ few_map f (Some a) few = few a
 few_editing : (o : Options) → AsksFew (editing o)
 few_editing o = few_cond _ _ (few_then _ o.sp_file (λ patch. few_map _ (defined_in o) (λ defined. tt)))
 
-few_patch : (patch : Option (List ℕ)) (seed functions : ℕ) (rest : Option Order) → functions ≤ 100000 → AsksFew rest
-    → AsksFew (option_map_or (λ p. Some (Apply p None [] (OnText seed functions))) patch rest)
-few_patch None seed functions rest few more = more
-few_patch (Some p) seed functions rest few more = few
+few_patch : (patch : Option (List ℕ)) (seed functions : ℕ) (quiet : Bool) (rest : Option Order) → functions ≤ 100000 → AsksFew rest
+    → AsksFew (option_map_or (λ p. Some (Apply p None [] (OnText seed functions quiet))) patch rest)
+few_patch None seed functions quiet rest few more = more
+few_patch (Some p) seed functions quiet rest few more = few
 
 few_on_text : (o : Options) (seed functions : ℕ) → functions ≤ 100000 → AsksFew (on_text o seed functions)
-few_on_text o seed functions few = few_patch o.sp_file seed functions _ few (few_cond_not (is_some o.jobs) (Some (Generate seed functions)) tt)
+few_on_text o seed functions few =
+    few_patch o.sp_file seed functions o.quiet _ few (few_cond_not (is_about_patches o) (Some (Generate seed functions)) tt)
 
 le_of : (a b : ℕ) → nat_le a b ≡ true → a ≤ b
 le_of a b e = grind (arith, nat_tests)
@@ -104,7 +105,7 @@ none_asked words no_text = rw no_text refl
 
 few_shown : (target : CodeTarget) → HasFew (shown_target target) → few_functions target
 few_shown (target.Files mode names) few = tt
-few_shown (target.Text seed functions) few = few
+few_shown (target.Text seed functions quiet) few = few
 
 pub few_ordered : (words : List (List ℕ)) (patch : List ℕ) (isos : Option (List ℕ)) (defined : List (List ℕ))
     (target : CodeTarget) → order_of words ≡ Some (Apply patch isos defined (shown_target target)) → few_functions target

@@ -1,5 +1,5 @@
 -- What a load leads to, by what it returned, and how the run ends from there.
-use Rattle.std.proofs.Common.{◌≡◌, ◌⊎◌, Bool, false, ℕ, ◌<◌, List, [], Option, Some, None, length, refl, sym, inl, inr, ◌∙◌}
+use Rattle.std.proofs.Common.{◌≡◌, ◌⊎◌, Bool, true, false, ℕ, ◌<◌, List, [], Option, Some, None, length, refl, sym, inl, inr, ◌∙◌}
 use Rattle.std.proofs.lemmas.Bool.{false≢true}
 use Rattle.std.specs.Prelude.{◌↔◌, IsTrue, IsSomeAnd}
 use Rattle.outer_io.specs.Files.{Files}
@@ -19,12 +19,12 @@ use Rattle.iso_file.specs.declared.fault.IsoFault.{IsoFault}
 use Rattle.iso_file.specs.declared.fault.IsoFault.TheVariants as iso_fault
 use Rattle.iso_file.specs.Isos.{AreIsosOf, IsFileFault}
 use Rattle.iso_file.specs.Isos.IsFileFault.{too_long}
-use Rattle.run_words.specs.Orders.{Target}
+use Rattle.run_words.specs.Orders.{Target, is_quiet}
 use Rattle.smpl_places.specs.FaultPlaces.{FaultAt}
-use Rattle.run_files.specs.RunLines.Further.{placed}
+use Rattle.run_files.specs.RunLines.Further.{placed, told_place}
 use Rattle.run_files.specs.RunLines.Patches.{patch_fault_line, iso_fault_line, iso_byte}
 use Rattle.run_files.specs.RunStages.Stages.{Stage, Work, ReadPatch, ReadIsos, EditFiles, Doing, refusing, first_load}
-use Rattle.run_files.specs.RunStages.Stages.{WorkLeads, PatchLeads, IsosFileLeads, ReadLeads, IsosLead}
+use Rattle.run_files.specs.RunStages.Stages.{WorkLeads, PatchLeads, IsosFileLeads, NotedLeads, IsosLead}
 use Rattle.run_files.specs.RunStages.Ends.{Ends, LeadsBy}
 use Rattle.run_files.specs.RunStages.Ends.LeadsBy.{unfed, from}
 use Rattle.spatch_run.proofs.Chain.{Goes-act, Goes-ends, broken}
@@ -36,8 +36,8 @@ no_trace same same_stores same_err = rw (same, same_stores, same_err) refl
 
 load_done : (work : Work) (old : Observed) → after_act (first_load work) old ≡ old
 load_done (ReadPatch name isos defined target) old = refl
-load_done (ReadIsos patch name defined target) old = refl
-load_done (EditFiles patch defined mode name names refused) old = refl
+load_done (ReadIsos patch notes name defined target) old = refl
+load_done (EditFiles patch defined mode name names course) old = refl
 
 -- a load was done, and the run ended from there
 pub loaded : (work : Work) (to : Stage) {first before now : Counts} {old here new : Observed} {status : ℕ}
@@ -69,6 +69,11 @@ pub not_memory : {A B : Type 0} (b : Bool) → b ≡ false → (IsTrue b ↔ A) 
 not_memory b isnt wanting (inl a) = absurd (false≢true (sym isnt ∙ wanting.1 a))
 not_memory b isnt wanting (inr other) = other
 
+-- without a place, none is told
+told_none : (quiet : Bool) → told_place quiet None ≡ None
+told_none true = refl
+told_none false = refl
+
 -- ---- the patch
 
 module _ (name : List ℕ) (isos : Option (List ℕ)) (defined : List (List ℕ)) (target : Target) where
@@ -78,31 +83,34 @@ module _ (name : List ℕ) (isos : Option (List ℕ)) (defined : List (List ℕ)
   pub patch_long : (under : Option (List ℕ)) → IsSomeAnd under (λ bytes. 1048576 < length bytes)
       → PatchLeads under name isos defined target (refusing (patch_fault_line name None patch_fault.PatchTooLong) 2)
   patch_long None long = absurd long
-  patch_long (Some bytes) long = inl (patch_fault.PatchTooLong, (spelling (in_text (text_too_long long)), (None, (refl, refl))))
+  patch_long (Some bytes) long =
+      inl (patch_fault.PatchTooLong, (spelling (in_text (text_too_long long)), (None, (refl, rw (told_none (is_quiet target)) refl))))
 
   pub patch_bad : (under : Option (List ℕ)) (bytes : List ℕ) (fault : PatchFault) (at : Option ℕ) → under ≡ Some bytes → IsFirstFault bytes fault
-      → FaultAt bytes fault at → PatchLeads under name isos defined target (refusing (patch_fault_line name (placed bytes at) fault) 2)
+      → FaultAt bytes fault at
+      → PatchLeads under name isos defined target (refusing (patch_fault_line name (told_place (is_quiet target) (placed bytes at)) fault) 2)
   patch_bad under bytes fault at is bad there = rw is (inl (fault, (bad, (at, (there, refl)))))
 
   pub patch_read : (under : Option (List ℕ)) (bytes : List ℕ) (patch : Patch) → under ≡ Some bytes → IsPatchOf bytes patch
-      → (to : Stage) → ReadLeads patch isos defined target to → PatchLeads under name isos defined target to
+      → (to : Stage) → NotedLeads bytes patch name isos defined target to → PatchLeads under name isos defined target to
   patch_read under bytes patch is read to leads = rw is (inr (patch, (read, leads)))
 
 -- ---- the isomorphisms
 
-module _ (patch : Patch) (name : List ℕ) (defined : List (List ℕ)) (target : Target) where
-  pub isos_absent : (under : Option (List ℕ)) → under ≡ None → IsosFileLeads under patch name defined target (refusing (cannot_read name) 5)
+module _ (patch : Patch) (notes : List (List ℕ)) (name : List ℕ) (defined : List (List ℕ)) (target : Target) where
+  pub isos_absent : (under : Option (List ℕ)) → under ≡ None → IsosFileLeads under patch notes name defined target (refusing (cannot_read name) 5)
   isos_absent under none = rw none refl
 
   pub isos_long : (under : Option (List ℕ)) → IsSomeAnd under (λ bytes. 1048576 < length bytes)
-      → IsosFileLeads under patch name defined target (refusing (iso_fault_line name None iso_fault.TooLong) 3)
+      → IsosFileLeads under patch notes name defined target (refusing (iso_fault_line name None iso_fault.TooLong) 3)
   isos_long None long = absurd long
-  isos_long (Some bytes) long = inl (iso_fault.TooLong, (too_long long, refl))
+  isos_long (Some bytes) long = inl (iso_fault.TooLong, (too_long long, rw (told_none (is_quiet target)) refl))
 
   pub isos_bad : (under : Option (List ℕ)) (bytes : List ℕ) (fault : IsoFault) → under ≡ Some bytes → IsFileFault bytes fault
-      → IsosFileLeads under patch name defined target (refusing (iso_fault_line name (placed bytes (iso_byte fault)) fault) 3)
+      → IsosFileLeads under patch notes name defined target
+      (refusing (iso_fault_line name (told_place (is_quiet target) (placed bytes (iso_byte fault))) fault) 3)
   isos_bad under bytes fault is bad = rw is (inl (fault, (bad, refl)))
 
   pub isos_read : (under : Option (List ℕ)) (bytes : List ℕ) (isos : List Iso) → under ≡ Some bytes → AreIsosOf bytes isos
-      → (to : Stage) → IsosLead isos patch name defined target to → IsosFileLeads under patch name defined target to
+      → (to : Stage) → IsosLead isos patch notes name defined target to → IsosFileLeads under patch notes name defined target to
   isos_read under bytes isos is read to leads = rw is (inr (isos, (read, leads)))

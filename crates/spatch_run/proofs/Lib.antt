@@ -1,6 +1,7 @@
 pub mod Chain
 pub mod Treating
 pub mod Leading
+pub mod Noting
 pub mod Few
 pub mod Beginning
 pub mod Exact

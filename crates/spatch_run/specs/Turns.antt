@@ -12,5 +12,5 @@ use Rattle.spatch_run.specs.declared.files.Turn.TheVariants as turn
 -- nothing is stored under its name, and nothing is output; or its bytes are treated, and their acts are done
 abbrev pub TurnsTo : Turn → Patch → List (List ℕ) → Mode → List ℕ → Observed → Observed → Type 0
 TurnsTo turn.Absent patch defined mode name old new = Found old.files name None × (new ≡ old)
-TurnsTo (turn.Processed refused) patch defined mode name old new =
-    (bytes : List ℕ) × (Found old.files name (Some bytes) × TreatsAll (IsFileTreatmentOf old.files mode patch defined name bytes) refused old new)
+TurnsTo (turn.Processed tally) patch defined mode name old new =
+    (bytes : List ℕ) × (Found old.files name (Some bytes) × TreatsAll (IsFileTreatmentOf old.files mode patch defined name bytes) tally old new)

@@ -22,6 +22,7 @@ ghost use Rattle.run_files.specs.RunStages.Causes.{Causes};
 mod files;
 mod host;
 mod laws;
+mod notes;
 mod refusals;
 mod run_ends;
 mod run_laws;
@@ -35,7 +36,9 @@ use outer_io::{Shelf, Sink};
 use par_match::Gate;
 use run_acts::Outside;
 pub use run_acts::Status;
-pub use run_ends::{jobs_leave_acts, runs_are_complete, words_have_acts};
+pub use run_ends::{
+    jobs_leave_acts, notes_come_last, quiet_leaves_lines_out, runs_are_complete, words_have_acts,
+};
 pub use run_laws::acts_are_one_list;
 use stages::{follow_words, status_of};
 use std::thread::Threads;

@@ -19,6 +19,7 @@ use c_places::places_are_one;
 use read_laws::{isos_are_read_once, patches_are_expanded_once, patches_have_one_fault};
 use rule_chain::chain_has_one_end;
 use smpl_file::patches_are_read_once;
+use smpl_notes::patches_are_noted_once;
 use smpl_places::faults_have_one_place;
 
 /// A list of words has only one list of acts if the shelf reveals its files: nothing else determines them.
@@ -36,6 +37,7 @@ pub fn acts_are_one_list()
         AreActs words other acts status → (rest : List Act) × (acts ≡ comes.acts ++ next ∷ rest) }
 {
     patches_are_read_once();
+    patches_are_noted_once();
     patches_have_one_fault();
     isos_are_read_once();
     patches_are_expanded_once();

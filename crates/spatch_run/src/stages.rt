@@ -23,6 +23,7 @@ ghost use Rattle.spatch_run.specs.Usable.{IsUsable};
 use crate::files::edit_files;
 use crate::host::Host;
 use crate::laws::patches_may_be_used;
+use crate::notes::{Noted, with_notes};
 use crate::refusals::{refuse_absent, refuse_forms, refuse_isos, refuse_patch, refuse_words};
 use crate::texts::{print_text, say, sum_text};
 use c_terms::{NoMemory, Text};
@@ -34,7 +35,7 @@ use par_match::{Gate, Workers};
 use rule_chain::PatchRules;
 use rule_envs::{Prepared, prepare};
 use run_acts::{Loaded, Outside, Status, Stopped, load};
-use run_files::{iso_byte, placed};
+use run_files::{iso_byte, placed, told_place};
 use run_words::{Order, PatchOrder, Target, order_of, text_fault, utf8_words, word_fault};
 use smpl_file::read_patch;
 use smpl_patch::{Iso, Patch, PatchFault};
@@ -158,13 +159,17 @@ fn follow_order<R: Threads + Sync, S: Shelf, O: Sink, E: Sink, G: Gate>(
     };
     let text = bytes.as_slice();
     match read_patch(alloc, text) {
-        Ok(patch) => give_forms(host, order, patch, outside),
+        Ok(patch) => {
+            let noted = with_notes(alloc, order, text, patch)?;
+            give_forms(host, order, noted, outside)
+        }
         Err(fault) => {
             if is_no_memory(&fault) {
                 return Err(Stopped::NoMemory);
             }
             let at = fault_at(alloc, text, &fault)?;
-            refuse_patch(alloc, outside.err, order.patch, placed(text, at), &fault)
+            let place = told_place(order.target.is_quiet(), placed(text, at));
+            refuse_patch(alloc, outside.err, order.patch, place, &fault)
         }
     }
 }
@@ -173,13 +178,14 @@ fn follow_order<R: Threads + Sync, S: Shelf, O: Sink, E: Sink, G: Gate>(
 fn give_forms<R: Threads + Sync, S: Shelf, O: Sink, E: Sink, G: Gate>(
     host: &Host<'_, R, G>,
     order: &PatchOrder<'_>,
-    patch: Patch,
+    noted: Noted,
     outside: &mut Outside<'_, '_, '_, S, O, E>,
 ) -> Result<Status, Stopped>
     requires few { few_functions order.now.target }
-    requires read { (bytes : List ℕ) × IsPatchOf bytes patch }
+    requires read { (bytes : List ℕ) × IsPatchOf bytes noted.patch }
     ensures same { SamePlaces outside.old outside.new }
-    ensures ends { LeadsBy (ReadLeads patch (shown_isos order.now.isos) order.now.defined.items (shown_target order.now.target))
+    ensures ends { LeadsBy (ReadLeads noted.patch (map (λ line. line.items) noted.notes.items) (shown_isos order.now.isos) order.now.defined.items
+        (shown_target order.now.target))
         (counts (S.faults outside.old.shelf.now) (O.faults outside.old.out.now) (E.faults outside.old.err.now))
         (counts (S.faults outside.new.shelf.now) (O.faults outside.new.out.now) (E.faults outside.new.err.now))
         (observed (S.holds outside.old.shelf.now) (S.stores outside.old.shelf.now) (O.written outside.old.out.now) (E.written outside.old.err.now))
@@ -189,8 +195,8 @@ fn give_forms<R: Threads + Sync, S: Shelf, O: Sink, E: Sink, G: Gate>(
     // A law: does nothing. What follows needs its contract.
     patches_may_be_used();
     match order.isos {
-        None => use_patch(host, order, &patch, outside),
-        Some(name) => load_isos(host, order, patch, name, outside),
+        None => use_patch(host, order, &noted.patch, &noted.notes, outside),
+        Some(name) => load_isos(host, order, noted, name, outside),
     }
 }
 
@@ -205,14 +211,15 @@ fn is_no_memory_for_isos(fault: IsoFault) -> bool
 fn load_isos<R: Threads + Sync, S: Shelf, O: Sink, E: Sink, G: Gate>(
     host: &Host<'_, R, G>,
     order: &PatchOrder<'_>,
-    patch: Patch,
+    noted: Noted,
     name: &str,
     outside: &mut Outside<'_, '_, '_, S, O, E>,
 ) -> Result<Status, Stopped>
     requires few { few_functions order.now.target }
-    requires read { (bytes : List ℕ) × IsPatchOf bytes patch }
+    requires read { (bytes : List ℕ) × IsPatchOf bytes noted.patch }
     ensures same { SamePlaces outside.old outside.new }
-    ensures ends { Ends (Doing [] (ReadIsos patch name.now order.now.defined.items (shown_target order.now.target)))
+    ensures ends { Ends (Doing [] (ReadIsos noted.patch (map (λ line. line.items) noted.notes.items) name.now order.now.defined.items
+        (shown_target order.now.target)))
         (counts (S.faults outside.old.shelf.now) (O.faults outside.old.out.now) (E.faults outside.old.err.now))
         (counts (S.faults outside.new.shelf.now) (O.faults outside.new.out.now) (E.faults outside.new.err.now))
         (observed (S.holds outside.old.shelf.now) (S.stores outside.old.shelf.now) (O.written outside.old.out.now) (E.written outside.old.err.now))
@@ -227,13 +234,14 @@ fn load_isos<R: Threads + Sync, S: Shelf, O: Sink, E: Sink, G: Gate>(
     };
     let text = bytes.as_slice();
     match read_isos(alloc, text) {
-        Ok(isos) => expand_patch(host, order, patch, name, isos.as_slice(), outside),
+        Ok(isos) => expand_patch(host, order, noted, name, isos.as_slice(), outside),
         Err(fault) => {
             if is_no_memory_for_isos(fault) {
                 return Err(Stopped::NoMemory);
             }
             let at = iso_byte(fault);
-            refuse_isos(alloc, outside.err, name, placed(text, at), fault)
+            let place = told_place(order.target.is_quiet(), placed(text, at));
+            refuse_isos(alloc, outside.err, name, place, fault)
         }
     }
 }
@@ -242,15 +250,16 @@ fn load_isos<R: Threads + Sync, S: Shelf, O: Sink, E: Sink, G: Gate>(
 fn expand_patch<R: Threads + Sync, S: Shelf, O: Sink, E: Sink, G: Gate>(
     host: &Host<'_, R, G>,
     order: &PatchOrder<'_>,
-    patch: Patch,
+    noted: Noted,
     name: &str,
     isos: &[Iso],
     outside: &mut Outside<'_, '_, '_, S, O, E>,
 ) -> Result<Status, Stopped>
     requires few { few_functions order.now.target }
-    requires read { (bytes : List ℕ) × IsPatchOf bytes patch }
+    requires read { (bytes : List ℕ) × IsPatchOf bytes noted.patch }
     ensures same { SamePlaces outside.old outside.new }
-    ensures ends { LeadsBy (IsosLead isos.now patch name.now order.now.defined.items (shown_target order.now.target))
+    ensures ends { LeadsBy (IsosLead isos.now noted.patch (map (λ line. line.items) noted.notes.items) name.now order.now.defined.items
+        (shown_target order.now.target))
         (counts (S.faults outside.old.shelf.now) (O.faults outside.old.out.now) (E.faults outside.old.err.now))
         (counts (S.faults outside.new.shelf.now) (O.faults outside.new.out.now) (E.faults outside.new.err.now))
         (observed (S.holds outside.old.shelf.now) (S.stores outside.old.shelf.now) (O.written outside.old.out.now) (E.written outside.old.err.now))
@@ -259,8 +268,9 @@ fn expand_patch<R: Threads + Sync, S: Shelf, O: Sink, E: Sink, G: Gate>(
 {
     // A law: does nothing. What follows needs its contract.
     patches_may_be_used();
+    let Noted { patch, notes } = noted;
     match expand(host.alloc, patch, isos) {
-        Ok(whole) => use_patch(host, order, &whole, outside),
+        Ok(whole) => use_patch(host, order, &whole, &notes, outside),
         Err(ExpandFault::NoMemory) => Err(Stopped::NoMemory),
         Err(ExpandFault::TooManyForms(rule)) => refuse_forms(host.alloc, outside.err, name, rule),
     }
@@ -293,12 +303,13 @@ fn use_patch<R: Threads + Sync, S: Shelf, O: Sink, E: Sink, G: Gate>(
     host: &Host<'_, R, G>,
     order: &PatchOrder<'_>,
     patch: &Patch,
+    notes: &[Vec<u8>],
     outside: &mut Outside<'_, '_, '_, S, O, E>,
 ) -> Result<Status, Stopped>
     requires few { few_functions order.now.target }
     requires usable { IsUsable patch.now }
     ensures same { SamePlaces outside.old outside.new }
-    ensures ends { LeadsBy (TargetLeads patch.now order.now.defined.items (shown_target order.now.target))
+    ensures ends { LeadsBy (TargetLeads patch.now (map (λ line. line.items) notes.now) order.now.defined.items (shown_target order.now.target))
         (counts (S.faults outside.old.shelf.now) (O.faults outside.old.out.now) (E.faults outside.old.err.now))
         (counts (S.faults outside.new.shelf.now) (O.faults outside.new.out.now) (E.faults outside.new.err.now))
         (observed (S.holds outside.old.shelf.now) (S.stores outside.old.shelf.now) (O.written outside.old.out.now) (E.written outside.old.err.now))
@@ -318,14 +329,9 @@ fn use_patch<R: Threads + Sync, S: Shelf, O: Sink, E: Sink, G: Gate>(
         defined: &order.defined,
     };
     match &order.target {
-        Target::Files(mode, names) => edit_files(&workers, &rules, *mode, names, outside),
-        Target::Text(seed, functions) => sum_text(
-            &workers,
-            &rules,
-            *seed,
-            *functions,
-            outside.out,
-            outside.err,
+        Target::Files(mode, names) => edit_files(&workers, &rules, *mode, names, notes, outside),
+        Target::Text(seed, functions, quiet) => sum_text(
+            &workers, &rules, *seed, *functions, *quiet, outside,
         ),
     }
 }

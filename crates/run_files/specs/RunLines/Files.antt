@@ -1,5 +1,5 @@
 -- The lines about files.
-use Rattle.std.specs.Prelude.{ℕ, ◌==◌, if◌then◌else◌, List, [], ◌++◌, Option, Some, None, slice_get, codes}
+use Rattle.std.specs.Prelude.{ℕ, List, [], ◌++◌, Option, None, option_and_then, slice_get, codes}
 use Rattle.std.specs.Fmt.{decimal}
 use Rattle.cpp_lines.specs.declared.reading.Why.{Why}
 use Rattle.cpp_lines.specs.declared.reading.Why.TheVariants.{NoTree, TooDeep, TooManyNodes}
@@ -50,9 +50,9 @@ why_text NoTree = codes "no tree"
 why_text TooDeep = codes "too deep"
 why_text TooManyNodes = codes "too many nodes"
 
--- where an item that a reading skipped begins in the text that was loaded, if that is the text of the reading
+-- where an item that a reading skipped is in the text that was loaded: at the first of its visible tokens that is of that text
 abbrev pub note_start : TextPlaces → SkipNote → Option ℕ
-note_start places note = if note.reading == 0 then slice_get places.items note.item else None
+note_start places note = option_and_then (slice_get places.tokens) note.token
 
 abbrev pub note_place : List ℕ → TextPlaces → SkipNote → Option Place
 note_place text places note = placed text (note_start places note)

@@ -1,5 +1,5 @@
 -- The further line, which follows a line about a file or a patch in the same put: what is at a place, and where that is.
-use Rattle.std.specs.Prelude.{ℕ, List, [], ◌++◌, Option, Some, None, option_map, codes}
+use Rattle.std.specs.Prelude.{ℕ, Bool, cond, List, [], ◌++◌, Option, Some, None, option_map, codes}
 use Rattle.std.specs.Fmt.{decimal}
 use Rattle.outer_io.specs.EscapedNames.Escapes.{escaped_name}
 use Rattle.text_places.specs.declared.place.Place.{Place}
@@ -18,3 +18,7 @@ further_at name (Some place) what = further name place what
 -- the place of a byte of a text, if there is such a byte
 abbrev pub placed : List ℕ → Option ℕ → Option Place
 placed text at = option_map (place_of text) at
+
+-- the place that is told: none under `--quiet`
+abbrev pub told_place : (quiet : Bool) → Option Place → Option Place
+told_place quiet place = cond quiet None place

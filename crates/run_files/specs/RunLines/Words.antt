@@ -65,6 +65,8 @@ abbrev pub help_options : List ℕ
 help_options = codes "  --sp-file P       the patch (needed)\n"
     ++ codes "  --in-place        store each file that changes; its text isn't printed\n"
     ++ codes "  --witnesses       print what each rule finds, in place of the text\n"
+    ++ codes "  --check           print the names of files in which something is found;\n                    status 8 if there is one\n"
+    ++ codes "  --quiet           leave out the lines that say more, which begin with two\n                    blanks\n"
     ++ codes "  --iso-file I      isomorphisms; examples/standard.iso has the usual ones\n"
     ++ codes "  --define a,b      the virtual names that hold\n"
     ++ codes "  --jobs n          match n items at a time, 1 to 64; the answer is the same\n"
@@ -73,9 +75,9 @@ help_options = codes "  --sp-file P       the patch (needed)\n"
     ++ codes "  --help, --version\n\n"
 
 abbrev pub help_more : List ℕ
-help_more = codes "Options and FILEs come in any order. A value is the next word, or stands\nbehind =. All words behind -- are FILEs.\n\n"
+help_more = codes "Options and FILEs come in any order. A value is the next word, or stands\nafter =. All words after -- are FILEs.\n\n"
     ++ codes "Status: 0 all done; 1 wrong words; 2 the patch is refused; 3 the isomorphisms\n"
-    ++ codes "are; 4 some file is; 5 something can't be read; 6 or written; 7 no memory.\n"
+    ++ codes "are; 4 some file is; 5 something can't be read; 6 or written; 7 no memory;\n8 something is found, under --check.\n"
     ++ codes "Lines on standard error: docs/REFUSALS.md. Patches: docs/LANGUAGE.md.\n"
 
 abbrev pub help : List ℕ

@@ -1,5 +1,5 @@
 -- Why a whole run has these acts and this status, in terms of the acts, file by file. Stages don't occur here.
-use Rattle.std.specs.Prelude.{ℕ, ◌≡◌, ◌⊎◌, Bool, false, ◌||◌, List, [], ◌∷◌, ◌++◌, Option, Some, None}
+use Rattle.std.specs.Prelude.{ℕ, ◌≡◌, ◌⊎◌, Bool, List, [], ◌∷◌, ◌++◌, Option, Some, None, is_some}
 use Rattle.run_acts.specs.Acts.{Act, Load, Print, Report, Observed, after}
 use Rattle.run_acts.specs.Lines.{cannot_read}
 use Rattle.run_acts.specs.Loaded.{Found}
@@ -13,14 +13,18 @@ use Rattle.iso_expand.specs.Patches.{IsExpanded, IsFirstMany}
 use Rattle.sp_gen.specs.Generated.{generated}
 use Rattle.run_words.specs.declared.order.Mode.{Mode}
 use Rattle.run_words.specs.declared.order.Saying.{Saying}
-use Rattle.run_words.specs.Orders.{Target, OnFiles, OnText, Apply, Generate, Say, order_of}
+use Rattle.run_words.specs.Orders.{Target, OnFiles, OnText, Apply, Generate, Say, order_of, is_quiet}
 use Rattle.run_words.specs.Faults.{word_fault}
 use Rattle.run_files.specs.RunLines.Words.{refused_words, said}
 use Rattle.run_files.specs.RunLines.Patches.{patch_fault_line, iso_fault_line, forms_line, iso_byte}
 use Rattle.smpl_places.specs.FaultPlaces.{FaultAt}
-use Rattle.run_files.specs.RunLines.Further.{placed}
+use Rattle.run_files.specs.RunLines.Further.{placed, told_place}
+use Rattle.run_files.specs.RunLines.Notes.{note_lines}
+use Rattle.smpl_notes.specs.declared.note.Note.{Note}
+use Rattle.smpl_notes.specs.Notes.{AreNotes}
+use Rattle.run_files.specs.declared.tally.Tally.{Tally}
 use Rattle.run_files.specs.Treatment.{Treated, file_limit, IsFileTreatmentOf, Sums}
-use Rattle.run_files.specs.RunStages.Stages.{patch_limit, generated_name, end_status}
+use Rattle.run_files.specs.RunStages.Stages.{patch_limit, generated_name, end_status, Course, first_course, after_file, told}
 
 -- ---- the patch
 
@@ -30,51 +34,55 @@ pub record PatchFound (words : List (List ℕ)) (old : Observed) (name : List �
   pub order : order_of words ≡ Some (Apply name isos defined target)
   pub found : Found old.files name under
 
--- the words ask for this patch, which was read, and these acts load it
-pub record PatchRead (words : List (List ℕ)) (old : Observed) (patch : Patch) (isos : Option (List ℕ)) (defined : List (List ℕ)) (target : Target)
-    (acts : List Act) : Type 0 where
+-- the words ask for this patch, which was read, these are the lines of the notes on it, and these acts load it
+pub record PatchRead (words : List (List ℕ)) (old : Observed) (patch : Patch) (lines : List (List ℕ)) (isos : Option (List ℕ))
+    (defined : List (List ℕ)) (target : Target) (acts : List Act) : Type 0 where
   pub name : List ℕ
   pub bytes : List ℕ
   pub found : PatchFound words old name (Some bytes) isos defined target
   pub is : IsPatchOf bytes patch
+  pub notes : List Note
+  pub are_notes : AreNotes bytes patch notes
+  pub lines_are : lines ≡ note_lines name (is_some isos) target notes
   pub acts_are : acts ≡ Load name patch_limit ∷ []
 
 -- the patch was read, and isomorphisms of this name are asked for, under which these bytes are stored, or nothing
-pub record IsosFound (words : List (List ℕ)) (old : Observed) (patch : Patch) (name : List ℕ) (under : Option (List ℕ)) (defined : List (List ℕ))
-    (target : Target) (acts : List Act) : Type 0 where
+pub record IsosFound (words : List (List ℕ)) (old : Observed) (patch : Patch) (lines : List (List ℕ)) (name : List ℕ) (under : Option (List ℕ))
+    (defined : List (List ℕ)) (target : Target) (acts : List Act) : Type 0 where
   pub before : List Act
-  pub read : PatchRead words old patch (Some name) defined target before
+  pub read : PatchRead words old patch lines (Some name) defined target before
   pub found : Found old.files name under
   pub acts_are : acts ≡ before ++ Load name patch_limit ∷ []
 
--- the patch that the words ask for, with all its forms, and the acts that load it and its isomorphisms
-pub data PatchReady (words : List (List ℕ)) (old : Observed) (whole : Patch) (defined : List (List ℕ)) (target : Target) (acts : List Act) : Type 0 where
-  plain : PatchRead words old whole None defined target acts → PatchReady words old whole defined target acts
-  expanded : (patch : Patch) (name bytes : List ℕ) (isos : List Iso) → IsosFound words old patch name (Some bytes) defined target acts
-      → AreIsosOf bytes isos → IsExpanded isos patch whole → PatchReady words old whole defined target acts
+-- the patch that the words ask for, with all its forms, the lines of the notes on it, and the acts that load it and its isomorphisms
+pub data PatchReady (words : List (List ℕ)) (old : Observed) (whole : Patch) (lines : List (List ℕ)) (defined : List (List ℕ)) (target : Target)
+    (acts : List Act) : Type 0 where
+  plain : PatchRead words old whole lines None defined target acts → PatchReady words old whole lines defined target acts
+  expanded : (patch : Patch) (name bytes : List ℕ) (isos : List Iso) → IsosFound words old patch lines name (Some bytes) defined target acts
+      → AreIsosOf bytes isos → IsExpanded isos patch whole → PatchReady words old whole lines defined target acts
 
 -- ---- the files
 
--- how the files end: all of them are processed, and at least one was refused or none; or the run ends at a name under which
--- nothing is stored
+-- how the files end: all of them are processed, with this tally; or the run ends at a name under which nothing is stored
 pub data FilesEnd : Type 0 where
-  AllDone : (refused : Bool) → FilesEnd
+  AllDone : (tally : Tally) → FilesEnd
   Missing : (name : List ℕ) → FilesEnd
 
 -- the status after the files
 abbrev pub files_status : FilesEnd → ℕ
-files_status (AllDone refused) = end_status refused
+files_status (AllDone tally) = end_status tally
 files_status (Missing name) = 5
 
--- The files in turn: each is loaded, as observed at that time, and leads to its acts.
-abbrev pub FilesDo : Observed → Patch → List (List ℕ) → Mode → List (List ℕ) → Bool → List Act → FilesEnd → Type 0
-FilesDo old patch defined mode [] refused acts end = (acts ≡ []) × (end ≡ AllDone refused)
-FilesDo old patch defined mode (name ∷ names) refused acts end =
+-- The files in turn: each is loaded, as observed at that time, and leads to its acts. After the last one, the notes are told if
+-- nothing was found and nothing refused.
+abbrev pub FilesDo : Observed → Patch → List (List ℕ) → Mode → List (List ℕ) → Course → List Act → FilesEnd → Type 0
+FilesDo old patch defined mode [] course acts end = (acts ≡ told course) × (end ≡ AllDone course.tally)
+FilesDo old patch defined mode (name ∷ names) course acts end =
     (Found old.files name None × ((acts ≡ Load name file_limit ∷ Report (cannot_read name) ∷ []) × (end ≡ Missing name)))
     ⊎ ((bytes : List ℕ) × (Found old.files name (Some bytes) × ((treated : Treated)
     × (IsFileTreatmentOf old.files mode patch defined name bytes treated × ((rest : List Act)
     × ((acts ≡ Load name file_limit ∷ treated.acts ++ rest)
-    × FilesDo (after treated.acts old) patch defined mode names (refused || treated.refused) rest end))))))
+    × FilesDo (after treated.acts old) patch defined mode names (after_file course treated.tally) rest end))))))
 
 -- ---- whole runs
 
@@ -93,25 +101,28 @@ pub data Reason (words : List (List ℕ)) (old : Observed) (acts : List Act) (st
   -- 2: the patch has a fault, and this is the first
   bad_patch : (name bytes : List ℕ) (isos : Option (List ℕ)) (defined : List (List ℕ)) (target : Target) (fault : PatchFault) (at : Option ℕ)
       → PatchFound words old name (Some bytes) isos defined target → IsFirstFault bytes fault → FaultAt bytes fault at
-      → acts ≡ Load name patch_limit ∷ Report (patch_fault_line name (placed bytes at) fault) ∷ [] → status ≡ 2 → Reason words old acts status
+      → acts ≡ Load name patch_limit ∷ Report (patch_fault_line name (told_place (is_quiet target) (placed bytes at)) fault) ∷ []
+      → status ≡ 2 → Reason words old acts status
   -- 5: nothing is stored under the isomorphisms' name
-  no_isos : (patch : Patch) (name : List ℕ) (defined : List (List ℕ)) (target : Target) (before : List Act)
-      → IsosFound words old patch name None defined target before → acts ≡ before ++ Report (cannot_read name) ∷ []
+  no_isos : (patch : Patch) (lines : List (List ℕ)) (name : List ℕ) (defined : List (List ℕ)) (target : Target) (before : List Act)
+      → IsosFound words old patch lines name None defined target before → acts ≡ before ++ Report (cannot_read name) ∷ []
       → status ≡ 5 → Reason words old acts status
   -- 3: the isomorphisms have a fault, and this is the first
-  bad_isos : (patch : Patch) (name bytes : List ℕ) (defined : List (List ℕ)) (target : Target) (fault : IsoFault) (before : List Act)
-      → IsosFound words old patch name (Some bytes) defined target before → IsFileFault bytes fault
-      → acts ≡ before ++ Report (iso_fault_line name (placed bytes (iso_byte fault)) fault) ∷ [] → status ≡ 3 → Reason words old acts status
+  bad_isos : (patch : Patch) (lines : List (List ℕ)) (name bytes : List ℕ) (defined : List (List ℕ)) (target : Target) (fault : IsoFault)
+      (before : List Act) → IsosFound words old patch lines name (Some bytes) defined target before → IsFileFault bytes fault
+      → acts ≡ before ++ Report (iso_fault_line name (told_place (is_quiet target) (placed bytes (iso_byte fault))) fault) ∷ []
+      → status ≡ 3 → Reason words old acts status
   -- 3: some rule has too many forms under the isomorphisms, and this is the first
-  many_forms : (patch : Patch) (name bytes : List ℕ) (defined : List (List ℕ)) (target : Target) (isos : List Iso) (rule : ℕ) (before : List Act)
-      → IsosFound words old patch name (Some bytes) defined target before → AreIsosOf bytes isos → IsFirstMany isos patch.rules rule
+  many_forms : (patch : Patch) (lines : List (List ℕ)) (name bytes : List ℕ) (defined : List (List ℕ)) (target : Target) (isos : List Iso) (rule : ℕ)
+      (before : List Act) → IsosFound words old patch lines name (Some bytes) defined target before → AreIsosOf bytes isos → IsFirstMany isos patch.rules rule
       → acts ≡ before ++ Report (forms_line name rule) ∷ [] → status ≡ 3 → Reason words old acts status
   -- 0 or 4: a patch is applied to a generated text
-  summed : (patch : Patch) (defined : List (List ℕ)) (seed functions : ℕ) (treated : Treated) (before : List Act)
-      → PatchReady words old patch defined (OnText seed functions) before
-      → Sums patch defined generated_name (generated seed functions) treated
-      → acts ≡ before ++ treated.acts → status ≡ end_status treated.refused → Reason words old acts status
-  -- 0, 4 or 5: the files are processed
-  filed : (patch : Patch) (defined : List (List ℕ)) (mode : Mode) (names : List (List ℕ)) (before rest : List Act) (end : FilesEnd)
-      → PatchReady words old patch defined (OnFiles mode names) before → FilesDo old patch defined mode names false rest end
+  summed : (patch : Patch) (lines : List (List ℕ)) (defined : List (List ℕ)) (seed functions : ℕ) (quiet : Bool) (treated : Treated)
+      (before : List Act) → PatchReady words old patch lines defined (OnText seed functions quiet) before
+      → Sums patch defined quiet generated_name (generated seed functions) treated
+      → acts ≡ before ++ treated.acts → status ≡ end_status treated.tally → Reason words old acts status
+  -- 0, 4, 5 or 8: the files are processed
+  filed : (patch : Patch) (lines : List (List ℕ)) (defined : List (List ℕ)) (mode : Mode) (names : List (List ℕ)) (before rest : List Act)
+      (end : FilesEnd) → PatchReady words old patch lines defined (OnFiles mode names) before
+      → FilesDo old patch defined mode names (first_course lines) rest end
       → acts ≡ before ++ rest → status ≡ files_status end → Reason words old acts status

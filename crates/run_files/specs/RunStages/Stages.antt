@@ -1,5 +1,5 @@
 -- How far a run has come, and what it does next.
-use Rattle.std.specs.Prelude.{ℕ, ◌≡◌, ◌⊎◌, Bool, false, ◌||◌, cond, List, [], ◌∷◌, Option, Some, None, codes}
+use Rattle.std.specs.Prelude.{ℕ, ◌≡◌, ◌⊎◌, Bool, false, ◌||◌, cond, List, [], ◌∷◌, ◌++◌, map, Option, Some, None, is_some, codes}
 use Rattle.outer_io.specs.Files.{Files}
 use Rattle.run_acts.specs.Acts.{Act, Load, Print, Report}
 use Rattle.run_acts.specs.Lines.{cannot_read}
@@ -14,12 +14,16 @@ use Rattle.iso_expand.specs.Patches.{IsExpanded, IsFirstMany}
 use Rattle.sp_gen.specs.Generated.{generated}
 use Rattle.run_words.specs.declared.order.Mode.{Mode}
 use Rattle.run_words.specs.declared.fault.WordFault.{WordFault}
-use Rattle.run_words.specs.Orders.{Target, OnFiles, OnText, Order, Apply, Generate, Say, order_of}
+use Rattle.run_words.specs.Orders.{Target, OnFiles, OnText, Order, Apply, Generate, Say, order_of, is_quiet}
 use Rattle.run_words.specs.Faults.{word_fault}
 use Rattle.run_files.specs.RunLines.Words.{refused_words, said}
 use Rattle.run_files.specs.RunLines.Patches.{patch_fault_line, iso_fault_line, forms_line, iso_byte}
 use Rattle.smpl_places.specs.FaultPlaces.{FaultAt}
-use Rattle.run_files.specs.RunLines.Further.{placed}
+use Rattle.run_files.specs.RunLines.Further.{placed, told_place}
+use Rattle.run_files.specs.RunLines.Notes.{note_lines}
+use Rattle.smpl_notes.specs.declared.note.Note.{Note}
+use Rattle.smpl_notes.specs.Notes.{AreNotes}
+use Rattle.run_files.specs.declared.tally.Tally.{Tally}
 use Rattle.run_files.specs.Treatment.{Treated, file_limit, IsFileTreatmentOf, Sums}
 
 -- the maximum number of bytes of a patch, and of isomorphisms
@@ -30,16 +34,41 @@ patch_limit = 1048576
 abbrev pub generated_name : List ℕ
 generated_name = codes "generated"
 
+-- ---- the files so far
+
+-- the tally of the files that were processed, and the lines of the notes on the patch
+pub record Course : Type 0 where
+  pub tally : Tally
+  pub notes : List (List ℕ)
+
+-- the tally of no text
+abbrev pub no_tally : Tally
+no_tally = record { refused = false; hit = false; found = false }
+
+-- before the first file
+abbrev pub first_course : List (List ℕ) → Course
+first_course notes = record { tally = no_tally; notes = notes }
+
+abbrev pub joined : Tally → Tally → Tally
+joined one other = record { refused = one.refused || other.refused; hit = one.hit || other.hit; found = one.found || other.found }
+
+abbrev pub after_file : Course → Tally → Course
+after_file course tally = record { tally = joined course.tally tally; notes = course.notes }
+
+-- the notes are told after the last file if nothing was found and nothing refused
+abbrev pub told : Course → List Act
+told course = cond (course.tally.refused || course.tally.found) [] (map Report course.notes)
+
 -- ---- stages
 
 -- what is left to do after the acts at hand
 pub data Work : Type 0 where
   -- the patch of this name is to be loaded and read
   ReadPatch : (name : List ℕ) (isos : Option (List ℕ)) (defined : List (List ℕ)) (target : Target) → Work
-  -- the isomorphisms of this name are to be loaded and read, and the patch gets its forms
-  ReadIsos : (patch : Patch) (name : List ℕ) (defined : List (List ℕ)) (target : Target) → Work
-  -- this file is to be loaded and edited, and then these; whether an earlier file was refused
-  EditFiles : (patch : Patch) (defined : List (List ℕ)) (mode : Mode) (name : List ℕ) (names : List (List ℕ)) (refused : Bool) → Work
+  -- the isomorphisms of this name are to be loaded and read, and the patch, on which there are these notes, gets its forms
+  ReadIsos : (patch : Patch) (notes : List (List ℕ)) (name : List ℕ) (defined : List (List ℕ)) (target : Target) → Work
+  -- this file is to be loaded and edited, and then these
+  EditFiles : (patch : Patch) (defined : List (List ℕ)) (mode : Mode) (name : List ℕ) (names : List (List ℕ)) (course : Course) → Work
 
 pub data Stage : Type 0 where
   -- the run does these acts, and then this work
@@ -51,14 +80,14 @@ pub data Stage : Type 0 where
 abbrev pub refusing : List ℕ → ℕ → Stage
 refusing line status = Ending (Report line ∷ []) status
 
--- the status at the end, by whether something was refused
-abbrev pub end_status : Bool → ℕ
-end_status refused = cond refused 4 0
+-- the status at the end: 4 if something was refused, or else 8 if something is hit
+abbrev pub end_status : Tally → ℕ
+end_status tally = cond tally.refused 4 (cond tally.hit 8 0)
 
 -- after these acts the remaining files are edited, or the run ends
-abbrev pub going : List Act → Patch → List (List ℕ) → Mode → List (List ℕ) → Bool → Stage
-going acts patch defined mode [] refused = Ending acts (end_status refused)
-going acts patch defined mode (name ∷ names) refused = Doing acts (EditFiles patch defined mode name names refused)
+abbrev pub going : List Act → Patch → List (List ℕ) → Mode → List (List ℕ) → Course → Stage
+going acts patch defined mode [] course = Ending (acts ++ told course) (end_status course.tally)
+going acts patch defined mode (name ∷ names) course = Doing acts (EditFiles patch defined mode name names course)
 
 -- ---- what leads from one to the next
 
@@ -73,52 +102,58 @@ abbrev pub begun_by : List (List ℕ) → Stage
 begun_by words = begun (word_fault words) (order_of words)
 
 -- what a patch with all its forms leads to
-abbrev pub TargetLeads : Patch → List (List ℕ) → Target → Stage → Type 0
-TargetLeads patch defined (OnFiles mode names) to = to ≡ going [] patch defined mode names false
-TargetLeads patch defined (OnText seed functions) to =
-    (treated : Treated) × (Sums patch defined generated_name (generated seed functions) treated
-    × (to ≡ Ending treated.acts (end_status treated.refused)))
+abbrev pub TargetLeads : Patch → List (List ℕ) → List (List ℕ) → Target → Stage → Type 0
+TargetLeads patch notes defined (OnFiles mode names) to = to ≡ going [] patch defined mode names (first_course notes)
+TargetLeads patch notes defined (OnText seed functions quiet) to =
+    (treated : Treated) × (Sums patch defined quiet generated_name (generated seed functions) treated
+    × (to ≡ Ending treated.acts (end_status treated.tally)))
 
 -- what a patch that was read leads to: it gets its forms if isomorphisms are named
-abbrev pub ReadLeads : Patch → Option (List ℕ) → List (List ℕ) → Target → Stage → Type 0
-ReadLeads patch None defined target to = TargetLeads patch defined target to
-ReadLeads patch (Some name) defined target to = to ≡ Doing [] (ReadIsos patch name defined target)
+abbrev pub ReadLeads : Patch → List (List ℕ) → Option (List ℕ) → List (List ℕ) → Target → Stage → Type 0
+ReadLeads patch notes None defined target to = TargetLeads patch notes defined target to
+ReadLeads patch notes (Some name) defined target to = to ≡ Doing [] (ReadIsos patch notes name defined target)
+
+-- what a patch that was read from these bytes leads to: there are notes on it
+abbrev pub NotedLeads : List ℕ → Patch → List ℕ → Option (List ℕ) → List (List ℕ) → Target → Stage → Type 0
+NotedLeads bytes patch name isos defined target to =
+    (notes : List Note) × (AreNotes bytes patch notes × ReadLeads patch (note_lines name (is_some isos) target notes) isos defined target to)
 
 -- what the content stored under the patch's name leads to
 abbrev pub PatchLeads : Option (List ℕ) → List ℕ → Option (List ℕ) → List (List ℕ) → Target → Stage → Type 0
 PatchLeads None name isos defined target to = to ≡ refusing (cannot_read name) 5
 PatchLeads (Some bytes) name isos defined target to =
     ((fault : PatchFault) × (IsFirstFault bytes fault × ((at : Option ℕ) × (FaultAt bytes fault at
-    × (to ≡ refusing (patch_fault_line name (placed bytes at) fault) 2)))))
-    ⊎ ((patch : Patch) × (IsPatchOf bytes patch × ReadLeads patch isos defined target to))
+    × (to ≡ refusing (patch_fault_line name (told_place (is_quiet target) (placed bytes at)) fault) 2)))))
+    ⊎ ((patch : Patch) × (IsPatchOf bytes patch × NotedLeads bytes patch name isos defined target to))
 
 -- what isomorphisms lead to: a rule has too many forms under them, or the patch gets its forms
-abbrev pub IsosLead : List Iso → Patch → List ℕ → List (List ℕ) → Target → Stage → Type 0
-IsosLead isos patch name defined target to =
+abbrev pub IsosLead : List Iso → Patch → List (List ℕ) → List ℕ → List (List ℕ) → Target → Stage → Type 0
+IsosLead isos patch notes name defined target to =
     ((rule : ℕ) × (IsFirstMany isos patch.rules rule × (to ≡ refusing (forms_line name rule) 3)))
-    ⊎ ((whole : Patch) × (IsExpanded isos patch whole × TargetLeads whole defined target to))
+    ⊎ ((whole : Patch) × (IsExpanded isos patch whole × TargetLeads whole notes defined target to))
 
 -- what the content stored under the isomorphisms' name leads to
-abbrev pub IsosFileLeads : Option (List ℕ) → Patch → List ℕ → List (List ℕ) → Target → Stage → Type 0
-IsosFileLeads None patch name defined target to = to ≡ refusing (cannot_read name) 5
-IsosFileLeads (Some bytes) patch name defined target to =
-    ((fault : IsoFault) × (IsFileFault bytes fault × (to ≡ refusing (iso_fault_line name (placed bytes (iso_byte fault)) fault) 3)))
-    ⊎ ((isos : List Iso) × (AreIsosOf bytes isos × IsosLead isos patch name defined target to))
+abbrev pub IsosFileLeads : Option (List ℕ) → Patch → List (List ℕ) → List ℕ → List (List ℕ) → Target → Stage → Type 0
+IsosFileLeads None patch notes name defined target to = to ≡ refusing (cannot_read name) 5
+IsosFileLeads (Some bytes) patch notes name defined target to =
+    ((fault : IsoFault) × (IsFileFault bytes fault
+    × (to ≡ refusing (iso_fault_line name (told_place (is_quiet target) (placed bytes (iso_byte fault))) fault) 3)))
+    ⊎ ((isos : List Iso) × (AreIsosOf bytes isos × IsosLead isos patch notes name defined target to))
 
 -- what a file leads to: the acts that result from it, and then the remaining files
-abbrev pub FileLeads : Option Files → Option (List ℕ) → Patch → List (List ℕ) → Mode → List ℕ → List (List ℕ) → Bool → Stage → Type 0
-FileLeads holds None patch defined mode name names refused to = to ≡ refusing (cannot_read name) 5
-FileLeads holds (Some bytes) patch defined mode name names refused to =
+abbrev pub FileLeads : Option Files → Option (List ℕ) → Patch → List (List ℕ) → Mode → List ℕ → List (List ℕ) → Course → Stage → Type 0
+FileLeads holds None patch defined mode name names course to = to ≡ refusing (cannot_read name) 5
+FileLeads holds (Some bytes) patch defined mode name names course to =
     (treated : Treated) × (IsFileTreatmentOf holds mode patch defined name bytes treated
-    × (to ≡ going treated.acts patch defined mode names (refused || treated.refused)))
+    × (to ≡ going treated.acts patch defined mode names (after_file course treated.tally)))
 
 -- ---- acts
 
 -- the load that a work begins with
 abbrev pub first_load : Work → Act
 first_load (ReadPatch name isos defined target) = Load name patch_limit
-first_load (ReadIsos patch name defined target) = Load name patch_limit
-first_load (EditFiles patch defined mode name names refused) = Load name file_limit
+first_load (ReadIsos patch notes name defined target) = Load name patch_limit
+first_load (EditFiles patch defined mode name names course) = Load name file_limit
 
 -- the next act
 abbrev pub next_act : Stage → Option Act
@@ -137,10 +172,10 @@ status_at (Ending [] status) = Some status
 abbrev pub WorkLeads : Option Files → Work → Stage → Type 0
 WorkLeads holds (ReadPatch name isos defined target) to =
     (under : Option (List ℕ)) × (Found holds name under × PatchLeads under name isos defined target to)
-WorkLeads holds (ReadIsos patch name defined target) to =
-    (under : Option (List ℕ)) × (Found holds name under × IsosFileLeads under patch name defined target to)
-WorkLeads holds (EditFiles patch defined mode name names refused) to =
-    (under : Option (List ℕ)) × (Found holds name under × FileLeads holds under patch defined mode name names refused to)
+WorkLeads holds (ReadIsos patch notes name defined target) to =
+    (under : Option (List ℕ)) × (Found holds name under × IsosFileLeads under patch notes name defined target to)
+WorkLeads holds (EditFiles patch defined mode name names course) to =
+    (under : Option (List ℕ)) × (Found holds name under × FileLeads holds under patch defined mode name names course to)
 
 -- the stage after the next act
 abbrev pub Leads : Option Files → Stage → Stage → Type 0

@@ -8,7 +8,12 @@ use text_places::{Place, Places, place_of};
 use wit_print::TextBuffer;
 
 /// Appends the further line about a place of a file or a patch of this name, and what is there.
-fn put_further(line: &mut TextBuffer, name: &str, place: Place, what: &[u8]) -> Result<(), NoMemory>
+pub fn put_further(
+    line: &mut TextBuffer,
+    name: &str,
+    place: Place,
+    what: &[u8],
+) -> Result<(), NoMemory>
     ensures { OnOk result (line.new ≡ line.old ++ spec.further name.now place what.now) }
 {
     let shown = escaped_name(line.alloc(), name.as_bytes())?;
@@ -34,6 +39,13 @@ pub fn put_further_at(
         None => Ok(()),
         Some(place) => put_further(line, name, place, what),
     }
+}
+
+/// Returns the place that is told: none under `--quiet`.
+pub fn told_place(quiet: bool, place: Option<Place>) -> Option<Place>
+    ensures place { result ≡ spec.told_place quiet place }
+{
+    if quiet { None } else { place }
 }
 
 /// Returns the place of a byte of a text, if there is such a byte. Linear in the bytes before it.

@@ -23,10 +23,11 @@ jobs_good None o e = refl
 jobs_good (Some text) o e = ap (λ (b : Bool). cond b None (Some (BadValue Jobs text))) e
 
 -- a patch is needed for the jobs in both or in neither
-same_need : (patch other one two : Bool) → (one ≡ two) ⊎ (patch ≡ true) → (not patch && (other || two)) ≡ (not patch && (other || one))
-same_need patch other one two (inl same) = ap (λ (b : Bool). not patch && (other || b)) (sym same)
-same_need true other one two (inr named) = refl
-same_need false other one two (inr named) = let wrong : false ≡ true = named in absurd cc
+same_need : (patch other quiet one two : Bool) → (one ≡ two) ⊎ (patch ≡ true)
+    → (not patch && (other || (two || quiet))) ≡ (not patch && (other || (one || quiet)))
+same_need patch other quiet one two (inl same) = ap (λ (b : Bool). not patch && (other || (b || quiet))) (sym same)
+same_need true other quiet one two (inr named) = refl
+same_need false other quiet one two (inr named) = let wrong : false ≡ true = named in absurd cc
 
 module _ (o : Options) (jobs : Option (List ℕ)) (has_one : has_jobs o ≡ true) (has_other : has_jobs (with_jobs jobs o) ≡ true)
     (given : (is_some o.jobs ≡ is_some jobs) ⊎ (is_some o.sp_file ≡ true)) where
@@ -40,7 +41,7 @@ module _ (o : Options) (jobs : Option (List ℕ)) (has_one : has_jobs o ≡ true
   need_same : need_fault other ≡ need_fault o
   need_same = ap (λ (b : Bool). first_of (told_if b (Needed need.Patch) ∷ told_if (not (has_files o) && not (is_some o.generate)) (Needed need.File)
       ∷ told_if (not (is_some o.functions) && is_some o.generate) (Needed need.Functions) ∷ []))
-      (same_need (is_some o.sp_file) (not (is_some o.generate)) (is_some o.jobs) (is_some jobs) given)
+      (same_need (is_some o.sp_file) (not (is_some o.generate)) o.quiet (is_some o.jobs) (is_some jobs) given)
 
   pub options_same : options_fault other ≡ options_fault o
   unfolding options_fault
@@ -57,7 +58,7 @@ none_of None given e is = refl
 none_of (Some x) given e is = let wrong : true ≡ false = e ∙ ap not is in absurd cc
 
 -- the fault of words that give options is that of the options
-fault_of_options : (words : List (List ℕ)) (o : Options) → list_all is_utf8 words ≡ true → options_of words ≡ Some o → word_fault words ≡ options_fault o
+pub fault_of_options : (words : List (List ℕ)) (o : Options) → list_all is_utf8 words ≡ true → options_of words ≡ Some o → word_fault words ≡ options_fault o
 unfolding word_fault
 fault_of_options words o text is =
     ap (λ (b : Bool). cond b (option_or (fault_from words [] None) (option_and_then options_fault (options_of words))) (Some (text_fault words))) text

@@ -1,5 +1,5 @@
 -- Words with other jobs ask for the same.
-use Rattle.std.proofs.Common.{◌≡◌, ◌⊎◌, ◌&&◌, ℕ, Bool, true, false, cond, not, Option, Some, None, is_some, List, [], length}
+use Rattle.std.proofs.Common.{◌≡◌, ◌⊎◌, ◌&&◌, ℕ, Bool, true, false, cond, not, Option, Some, None, is_some, List, [], length, ◌||◌}
 use Rattle.std.proofs.Common.{inl, inr, refl, sym, ap, ◌∙◌, option_and_then}
 use Rattle.std.specs.Prelude.{nat_le}
 use Rattle.std.specs.List.{list_all}
@@ -38,11 +38,13 @@ module _ (o : Options) (jobs : Option (List ℕ)) (has_one : has_jobs o ≡ true
   both_given (Some patch) (inr named) e = absurd cc
 
   text_by : (sp : Option (List ℕ)) → o.sp_file ≡ sp → (seed functions : ℕ)
-      → option_map_or (λ patch. Some (Apply patch None [] (OnText seed functions))) sp (cond (is_some jobs) None (Some (Generate seed functions)))
-      ≡ option_map_or (λ patch. Some (Apply patch None [] (OnText seed functions))) sp (cond (is_some o.jobs) None (Some (Generate seed functions)))
+      → option_map_or (λ patch. Some (Apply patch None [] (OnText seed functions o.quiet))) sp
+      (cond (is_some jobs || o.quiet) None (Some (Generate seed functions)))
+      ≡ option_map_or (λ patch. Some (Apply patch None [] (OnText seed functions o.quiet))) sp
+      (cond (is_some o.jobs || o.quiet) None (Some (Generate seed functions)))
   text_by (Some patch) e seed functions = refl
   text_by None e seed functions =
-      ap (λ (b : Bool). cond b None (Some (Generate seed functions))) (both_given o.sp_file given e)
+      ap (λ (b : Bool). cond (b || o.quiet) None (Some (Generate seed functions))) (both_given o.sp_file given e)
 
   text_same : (seed functions : ℕ) → on_text other seed functions ≡ on_text o seed functions
   text_same seed functions = text_by o.sp_file refl seed functions

@@ -1,6 +1,6 @@
--- Files in turn have acts, and their end follows from whether they are present and refused.
-use Rattle.std.proofs.Common.{◌≡◌, ◌<◌, ◌≤◌, ◌⊎◌, ◌||◌, ℕ, Bool, true, false, Option, Some, None, List, [], ◌∷◌, ◌++◌, length}
-use Rattle.std.proofs.Common.{inl, inr, refl, ap, ◌∙◌, subst, arith}
+-- Files in turn have acts, and their end follows from whether they are present, refused and hit.
+use Rattle.std.proofs.Common.{◌≡◌, ◌<◌, ◌≤◌, ◌⊎◌, ◌||◌, ℕ, Bool, true, false, Option, Some, None, List, [], ◌∷◌, ◌++◌, length, inl, inr, refl, sym}
+use Rattle.std.proofs.Common.{ap, ◌∙◌, arith}
 use Rattle.std.specs.Prelude.{IsSome}
 use Rattle.std.specs.FinMap.{get}
 use Rattle.outer_io.specs.Files.{Files}
@@ -12,12 +12,16 @@ use Rattle.run_acts.specs.Lines.{cannot_read}
 use Rattle.run_acts.specs.Loaded.{Found}
 use Rattle.run_files.specs.RunLines.Files.{too_long_line}
 use Rattle.run_words.specs.declared.order.Mode.{Mode}
-use Rattle.run_files.specs.Treatment.{Treated, file_limit, IsTreatmentOf, IsFileTreatmentOf, treated_by, refuses}
+use Rattle.run_files.specs.Treatment.{Treated, file_limit, IsTreatmentOf, IsFileTreatmentOf, treated_by, told_places, refuses}
 use Rattle.run_files.proofs.TreatLemmas.{chain_places}
+use Rattle.run_files.specs.declared.tally.Tally.{Tally}
+use Rattle.run_files.specs.RunStages.Stages.{Course, joined, after_file, told}
 use Rattle.run_files.specs.RunStages.Reasons.{FilesEnd, AllDone, Missing, FilesDo}
 use Rattle.text_laws.specs.ChainTotal.Weakly.{Weakly}
-use Rattle.spatch_run.specs.RunEnds.Fates.{AllThere, NoneRefused, SomeRefused}
-use Rattle.spatch_run.proofs.RunLaws.Unique.{not-untold, after_act-observed}
+use Rattle.spatch_run.specs.RunEnds.Fates.{AllThere, NoFile, SomeFile}
+use Rattle.spatch_run.proofs.RunLaws.Unique.{not-untold}
+use Rattle.spatch_run.proofs.RunLaws.OnePath.{after_act-observed}
+use Rattle.spatch_run.proofs.RunLaws.Checked.{same_tally}
 
 -- the rules have an outcome over each text
 abbrev pub HaveEnds : List Rule → List (List ℕ) → Type 0
@@ -36,17 +40,23 @@ told_after : (acts : List Act) (old : Observed) → IsSome old.files → IsSome 
 told_after [] old some = some
 told_after (act ∷ acts) old some = told_after acts (after_act act old) (after_act-observed act old some)
 
-or_true : (b : Bool) → (b || true) ≡ true
-or_true true = refl
-or_true false = refl
+or_true : (a b : Bool) → b ≡ true → (a || b) ≡ true
+or_true true b e = refl
+or_true false b e = e
 
-or_false : (b : Bool) → (b || false) ≡ b
-or_false true = refl
-or_false false = refl
+or_first : (a b : Bool) → a ≡ true → (a || b) ≡ true
+or_first a b e = ap (λ (x : Bool). x || b) e
+
+or_neither : (a b : Bool) → a ≡ false → b ≡ false → (a || b) ≡ false
+or_neither a b e f = ap (λ (x : Bool). x || b) e ∙ f
+
+-- what holds of a tally that was joined holds of one of the two
+abbrev pub Joins : (Tally → Bool) → Type 0
+Joins has = (one other : Tally) → has (joined one other) ≡ (has one || has other)
 
 module _ (patch : Patch) (defined : List (List ℕ)) (mode : Mode) where
-  abbrev pub Does : Observed → List (List ℕ) → Bool → List Act → FilesEnd → Type 0
-  Does old names refused acts end = FilesDo old patch defined mode names refused acts end
+  abbrev pub Does : Observed → List (List ℕ) → Course → List Act → FilesEnd → Type 0
+  Does old names course acts end = FilesDo old patch defined mode names course acts end
 
   -- if the shelf reveals its files, none is a pipe, a device or a socket
   treats_told : (holds : Option Files) (name bytes : List ℕ) (treated : Treated) → IsSome holds → IsFileTreatmentOf holds mode patch defined name bytes treated
@@ -62,18 +72,18 @@ module _ (patch : Patch) (defined : List (List ℕ)) (mode : Mode) where
       | inr long ↦ absent (refuses (too_long_line name), inl (long, refl))
       | inl short ↦ ends bytes (λ e.
           let places = chain_places patch.rules defined bytes e.0 e.1 in
-          absent (treated_by mode patch name bytes places.0 e.0, inr (short, (e.0, (e.1, (places.0, (places.1, refl)))))))
+          absent (treated_by mode patch name bytes (told_places mode.quiet places.0) e.0, inr (short, (e.0, (e.1, (places.0, (places.1, refl)))))))
     ]
 
-    pub files_do : (old : Observed) (names : List (List ℕ)) (refused : Bool) → Weakly ((acts : List Act) × ((end : FilesEnd) × Does old names refused acts end))
-    files_do old [] refused = λ absent. absent ([], (AllDone refused, (refl, refl)))
-    files_do old (name ∷ names) refused = λ absent.
+    pub files_do : (old : Observed) (names : List (List ℕ)) (course : Course) → Weakly ((acts : List Act) × ((end : FilesEnd) × Does old names course acts end))
+    files_do old [] course = λ absent. absent (told course, (AllDone course.tally, (refl, refl)))
+    files_do old (name ∷ names) course = λ absent.
         let found = found_some old.files name in
         elim found.0 as (λ (under : Option (List ℕ)). Found old.files name under → ⊥) [
           | None ↦ λ none. absent (Load name file_limit ∷ Report (cannot_read name) ∷ [], (Missing name, inl (none, (refl, refl))))
           | Some bytes ↦ λ some.
               treats_some name bytes (λ t.
-              files_do (after t.0.acts old) names (refused || t.0.refused) (λ rest.
+              files_do (after t.0.acts old) names (after_file course t.0.tally) (λ rest.
               absent (
                 Load name file_limit ∷ t.0.acts ++ rest.0,
                 (rest.1.0, inr (bytes, (some, (t.0, (inl t.1, (rest.0, (refl, rest.1.1))))))),
@@ -82,63 +92,79 @@ module _ (patch : Patch) (defined : List (List ℕ)) (mode : Mode) where
 
   -- ---- how they end
 
-  -- if each is present and an earlier one was refused
-  stays : (old : Observed) (names : List (List ℕ)) (acts : List Act) (end : FilesEnd) → IsSome old.files → Does old names true acts end
-      → AllThere patch defined mode old names → end ≡ AllDone true
-  stays old [] acts end observed does there = does.1
-  stays old (name ∷ names) acts end observed (inl none) there = absurd (there.0 none.0)
-  stays old (name ∷ names) acts end observed (inr some) there =
-      let treats = treats_told old.files name some.0 some.1.1.0 observed some.1.1.1.0 in
-      stays (after some.1.1.0.acts old) names some.1.1.1.1.0 end (told_after some.1.1.0.acts old observed) some.1.1.1.1.1.1
-      (there.1 some.0 some.1.1.0 some.1.0 treats)
-
-  -- if each is present and none is refused
-  pub fine : (old : Observed) (names : List (List ℕ)) (refused : Bool) (acts : List Act) (end : FilesEnd) → IsSome old.files → Does old names refused acts end
-      → AllThere patch defined mode old names → NoneRefused patch defined mode old names → end ≡ AllDone refused
-  fine old [] refused acts end observed does there none = does.1
-  fine old (name ∷ names) refused acts end observed (inl gone) there none = absurd (there.0 gone.0)
-  fine old (name ∷ names) refused acts end observed (inr some) there none =
+  -- if each is present, all are processed
+  pub all_done : (old : Observed) (names : List (List ℕ)) (course : Course) (acts : List Act) (end : FilesEnd) → IsSome old.files
+      → Does old names course acts end → AllThere patch defined mode old names → (tally : Tally) × (end ≡ AllDone tally)
+  all_done old [] course acts end observed does there = (course.tally, does.1)
+  all_done old (name ∷ names) course acts end observed (inl gone) there = absurd (there.0 gone.0)
+  all_done old (name ∷ names) course acts end observed (inr some) there =
       let treated = some.1.1.0 in
       let treats = treats_told old.files name some.0 treated observed some.1.1.1.0 in
-      let here = none some.0 treated some.1.0 treats in
-      let rest = fine (after treated.acts old) names (refused || treated.refused) some.1.1.1.1.0 end (told_after treated.acts old observed) some.1.1.1.1.1.1
-      (there.1 some.0 treated some.1.0 treats) here.1 in
-      rest ∙ ap (λ (b : Bool). AllDone (refused || b)) here.0 ∙ ap AllDone (or_false refused)
+      all_done (after treated.acts old) names (after_file course treated.tally) some.1.1.1.1.0 end (told_after treated.acts old observed)
+      some.1.1.1.1.1.1 (there.1 some.0 treated some.1.0 treats)
 
-  -- if each is present and some is refused, they have acts with this end
-  module _ (ends : HaveEnds patch.rules defined) where
-    abbrev Refusing : Observed → List (List ℕ) → Bool → Type 0
-    Refusing old names refused = (acts : List Act) × ((end : FilesEnd) × (Does old names refused acts end × (end ≡ AllDone true)))
-
-    -- after a file that is refused
-    behind : (old : Observed) (names : List (List ℕ)) (refused : Bool) → IsSome old.files → refused ≡ true → AllThere patch defined mode old names
-        → Weakly (Refusing old names refused)
-    behind old names refused observed is there = λ absent.
-        files_do ends old names refused (λ rest.
-        absent (
-          rest.0,
-          (
-            rest.1.0,
-            (
-              rest.1.1,
-              stays old names rest.0 rest.1.0 observed (subst (λ (b : Bool). Does old names b rest.0 rest.1.0) is rest.1.1) there,
-            ),
-          ),
-        ))
-
-    pub refused_do : (old : Observed) (names : List (List ℕ)) (refused : Bool) → IsSome old.files → AllThere patch defined mode old names
-        → SomeRefused patch defined mode old names → Weakly (Refusing old names refused)
-    refused_do old [] refused observed there some = absurd some
-    refused_do old (name ∷ names) refused observed there some = λ absent.
+  module _ (has : Tally → Bool) (joins : Joins has) where
+    -- what an earlier file had
+    stays : (old : Observed) (names : List (List ℕ)) (course : Course) (acts : List Act) (end : FilesEnd) (tally : Tally)
+        → Does old names course acts end → end ≡ AllDone tally → has course.tally ≡ true → has tally ≡ true
+    stays old [] course acts end tally does is had = sym (ap has (same_tally course.tally tally (sym does.1 ∙ is))) ∙ had
+    stays old (name ∷ names) course acts end tally (inl gone) is had = let no : Missing name ≡ AllDone tally = sym gone.1.1 ∙ is in absurd (cc)
+    stays old (name ∷ names) course acts end tally (inr some) is had =
         let treated = some.1.1.0 in
-        let later = there.1 some.0 treated some.1.0 some.1.1.1.0 in
-        let on : Refusing (after treated.acts old) names (refused || treated.refused) → ⊥ = λ rest.
-        absent (
-          Load name file_limit ∷ treated.acts ++ rest.0,
-          (rest.1.0, (inr (some.0, (some.1.0, (treated, (inl some.1.1.1.0, (rest.0, (refl, rest.1.1.0)))))), rest.1.1.1)),
-        ) in
-        elim some.1.1.1.1 [
-          | inl here ↦ behind (after treated.acts old) names (refused || treated.refused) (told_after treated.acts old observed)
-              (ap (λ (b : Bool). refused || b) here ∙ or_true refused) later on
-          | inr more ↦ refused_do (after treated.acts old) names (refused || treated.refused) (told_after treated.acts old observed) later more on
-        ]
+        stays (after treated.acts old) names (after_file course treated.tally) some.1.1.1.1.0 end tally some.1.1.1.1.1.1 is
+        (joins course.tally treated.tally ∙ or_first (has course.tally) (has treated.tally) had)
+
+    -- what no file has
+    pub none_has : (old : Observed) (names : List (List ℕ)) (course : Course) (acts : List Act) (end : FilesEnd) (tally : Tally)
+        → IsSome old.files → Does old names course acts end → end ≡ AllDone tally → NoFile patch defined mode has old names
+        → has course.tally ≡ false → has tally ≡ false
+    none_has old [] course acts end tally observed does is none had = sym (ap has (same_tally course.tally tally (sym does.1 ∙ is))) ∙ had
+    none_has old (name ∷ names) course acts end tally observed (inl gone) is none had =
+        let no : Missing name ≡ AllDone tally = sym gone.1.1 ∙ is in absurd (cc)
+    none_has old (name ∷ names) course acts end tally observed (inr some) is none had =
+        let treated = some.1.1.0 in
+        let treats = treats_told old.files name some.0 treated observed some.1.1.1.0 in
+        let here = none some.0 treated some.1.0 treats in
+        none_has (after treated.acts old) names (after_file course treated.tally) some.1.1.1.1.0 end tally (told_after treated.acts old observed)
+        some.1.1.1.1.1.1 is here.1 (joins course.tally treated.tally ∙ or_neither (has course.tally) (has treated.tally) had here.0)
+
+    -- if each is present and some file has it, they have acts with this end
+    module _ (ends : HaveEnds patch.rules defined) where
+      abbrev pub Having : Observed → List (List ℕ) → Course → Type 0
+      Having old names course = (acts : List Act) × ((end : FilesEnd) × (Does old names course acts end
+          × ((tally : Tally) × ((end ≡ AllDone tally) × (has tally ≡ true)))))
+
+      -- after a file that has it
+      later : (old : Observed) (names : List (List ℕ)) (course : Course) → IsSome old.files → has course.tally ≡ true
+          → AllThere patch defined mode old names → Weakly (Having old names course)
+      later old names course observed had there = λ absent.
+          files_do ends old names course (λ rest.
+          let done_with = all_done old names course rest.0 rest.1.0 observed rest.1.1 there in
+          absent (
+            rest.0,
+            (
+              rest.1.0,
+              (
+                rest.1.1,
+                (done_with.0, (done_with.1, stays old names course rest.0 rest.1.0 done_with.0 rest.1.1 done_with.1 had)),
+              ),
+            ),
+          ))
+
+      pub some_do : (old : Observed) (names : List (List ℕ)) (course : Course) → IsSome old.files → AllThere patch defined mode old names
+          → SomeFile patch defined mode has old names → Weakly (Having old names course)
+      some_do old [] course observed there some = absurd some
+      some_do old (name ∷ names) course observed there some = λ absent.
+          let treated = some.1.1.0 in
+          let rest_there = there.1 some.0 treated some.1.0 some.1.1.1.0 in
+          let next = after_file course treated.tally in
+          let on : Having (after treated.acts old) names next → ⊥ = λ rest.
+          absent (
+            Load name file_limit ∷ treated.acts ++ rest.0,
+            (rest.1.0, (inr (some.0, (some.1.0, (treated, (inl some.1.1.1.0, (rest.0, (refl, rest.1.1.0)))))), rest.1.1.1)),
+          ) in
+          elim some.1.1.1.1 [
+            | inl here ↦ later (after treated.acts old) names next (told_after treated.acts old observed)
+                (joins course.tally treated.tally ∙ or_true (has course.tally) (has treated.tally) here) rest_there on
+            | inr more ↦ some_do (after treated.acts old) names next (told_after treated.acts old observed) rest_there more on
+          ]

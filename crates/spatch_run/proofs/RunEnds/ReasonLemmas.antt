@@ -1,5 +1,5 @@
 -- Words have acts with a reason.
-use Rattle.std.proofs.Common.{◌≡◌, ◌⊎◌, ℕ, false, Option, Some, None, List, [], ◌∷◌, ◌++◌, inl, inr, refl}
+use Rattle.std.proofs.Common.{◌≡◌, ◌⊎◌, ℕ, Option, Some, None, is_some, List, [], ◌∷◌, ◌++◌, inl, inr, refl}
 use Rattle.smpl_patch.specs.declared.rule.Iso.{Iso}
 use Rattle.smpl_patch.specs.declared.rule.Patch.{Patch}
 use Rattle.smpl_patch.specs.declared.fault.PatchFault.{PatchFault}
@@ -14,16 +14,20 @@ use Rattle.run_acts.specs.Lines.{cannot_read}
 use Rattle.run_acts.specs.Loaded.{Found}
 use Rattle.run_files.specs.RunLines.Words.{refused_words, said}
 use Rattle.run_files.specs.RunLines.Patches.{patch_fault_line, iso_fault_line, forms_line, iso_byte}
-use Rattle.run_words.specs.Orders.{Target, OnFiles, OnText, Order, Apply, Generate, Say, order_of}
+use Rattle.run_words.specs.Orders.{Target, OnFiles, OnText, Order, Apply, Generate, Say, order_of, is_quiet}
 use Rattle.run_words.specs.Faults.{word_fault}
 use Rattle.smpl_places.specs.FaultPlaces.{FaultAt}
-use Rattle.run_files.specs.RunLines.Further.{placed}
-use Rattle.run_files.specs.Treatment.{Treated, summed_by}
-use Rattle.run_files.specs.RunStages.Stages.{patch_limit, generated_name, end_status}
+use Rattle.smpl_notes.specs.declared.note.Note.{Note}
+use Rattle.smpl_notes.specs.Notes.{AreNotes}
+use Rattle.run_files.specs.RunLines.Further.{placed, told_place}
+use Rattle.run_files.specs.RunLines.Notes.{note_lines}
+use Rattle.run_files.specs.Treatment.{Treated, summed_by, told_places}
+use Rattle.run_files.specs.RunStages.Stages.{patch_limit, generated_name, first_course, end_status}
 use Rattle.run_files.proofs.TreatLemmas.{chain_places}
 use Rattle.run_files.specs.RunStages.Reasons.{PatchFound, PatchRead, IsosFound, PatchReady, Reason, files_status}
 use Rattle.run_files.specs.RunStages.Reasons.PatchReady.{plain, expanded}
-use Rattle.run_files.specs.RunStages.Reasons.Reason.{unasked, is_said, is_generated, no_patch, bad_patch, no_isos, bad_isos, many_forms, summed, filed}
+use Rattle.run_files.specs.RunStages.Reasons.Reason.{unasked, is_said, is_generated, no_patch, bad_patch, no_isos, bad_isos, many_forms, summed}
+use Rattle.run_files.specs.RunStages.Reasons.Reason.{filed}
 use Rattle.text_laws.specs.ChainTotal.Weakly.{Weakly}
 use Rattle.spatch_run.proofs.RunEnds.FileLemmas.{HaveEnds, found_some, files_do}
 
@@ -32,6 +36,9 @@ PatchLaw = (bytes : List ℕ) → ((patch : Patch) → IsPatchOf bytes patch →
 
 abbrev pub PlaceLaw : Type 0
 PlaceLaw = (bytes : List ℕ) (fault : PatchFault) → ((at : Option ℕ) → FaultAt bytes fault at → ⊥) → ⊥
+
+abbrev pub NotesLaw : Type 0
+NotesLaw = (bytes : List ℕ) (patch : Patch) → IsPatchOf bytes patch → (notes : List Note) × AreNotes bytes patch notes
 
 abbrev pub IsosLaw : Type 0
 IsosLaw = (bytes : List ℕ) → ((isos : List Iso) → AreIsosOf bytes isos → ⊥) → ((fault : IsoFault) → IsFileFault bytes fault → ⊥) → ⊥
@@ -48,61 +55,63 @@ ExpandedLaw = (bytes : List ℕ) (isos : List Iso) (patch whole : Patch) (define
     → IsExpanded isos patch whole → Weakly ((end : Outcome) × Chain whole.rules defined text end)
 
 -- the rules of a patch that is ready have an outcome over each text
-pub ready_ends : ReadLaw → ExpandedLaw → (words : List (List ℕ)) (old : Observed) (patch : Patch) (defined : List (List ℕ)) (target : Target) (acts : List Act)
-    → PatchReady words old patch defined target acts → HaveEnds patch.rules defined
-ready_ends read forms words old patch defined target acts (plain r) = λ text. read r.bytes patch defined text r.is.spelled
-ready_ends read forms words old patch defined target acts (expanded first name bytes isos found are is) =
+pub ready_ends : ReadLaw → ExpandedLaw → (words : List (List ℕ)) (old : Observed) (patch : Patch) (lines defined : List (List ℕ)) (target : Target)
+    (acts : List Act) → PatchReady words old patch lines defined target acts → HaveEnds patch.rules defined
+ready_ends read forms words old patch lines defined target acts (plain r) = λ text. read r.bytes patch defined text r.is.spelled
+ready_ends read forms words old patch lines defined target acts (expanded first name bytes isos found are is) =
     λ text. forms found.read.bytes isos first patch defined text found.read.is.spelled is
 
-module _ (patch_law : PatchLaw) (place_law : PlaceLaw) (isos_law : IsosLaw) (forms_law : FormsLaw) (read_law : ReadLaw)
+module _ (patch_law : PatchLaw) (place_law : PlaceLaw) (notes_law : NotesLaw) (isos_law : IsosLaw) (forms_law : FormsLaw) (read_law : ReadLaw)
     (expanded_law : ExpandedLaw) (words : List (List ℕ))
     (old : Observed) (absent : ((acts : List Act) × ((status : ℕ) × Reason words old acts status)) → ⊥) where
   -- the patch has all its forms
-  target_by : (patch : Patch) (defined : List (List ℕ)) (target : Target) (before : List Act) → PatchReady words old patch defined target before → ⊥
-  target_by patch defined (OnFiles mode names) before ready =
-      files_do patch defined mode (ready_ends read_law expanded_law words old patch defined (OnFiles mode names) before ready) old names false
-      (λ rest. absent (before ++ rest.0, (files_status rest.1.0, filed patch defined mode names before rest.0 rest.1.0 ready rest.1.1 refl refl)))
-  target_by patch defined (OnText seed functions) before ready =
-      ready_ends read_law expanded_law words old patch defined (OnText seed functions) before ready (generated seed functions)
+  target_by : (patch : Patch) (lines defined : List (List ℕ)) (target : Target) (before : List Act) → PatchReady words old patch lines defined target before → ⊥
+  target_by patch lines defined (OnFiles mode names) before ready =
+      files_do patch defined mode (ready_ends read_law expanded_law words old patch lines defined
+      (OnFiles mode names) before ready) old names (first_course lines)
+      (λ rest. absent (before ++ rest.0, (files_status rest.1.0, filed patch lines defined mode names before rest.0 rest.1.0 ready rest.1.1 refl refl)))
+  target_by patch lines defined (OnText seed functions quiet) before ready =
+      ready_ends read_law expanded_law words old patch lines defined (OnText seed functions quiet) before ready (generated seed functions)
       (λ e.
       let places = chain_places patch.rules defined (generated seed functions) e.0 e.1 in
-      let treated : Treated = summed_by patch generated_name (generated seed functions) places.0 e.0 in
+      let treated : Treated = summed_by patch generated_name (generated seed functions) (told_places quiet places.0) e.0 in
       absent (
         before ++ treated.acts,
-        (end_status treated.refused, summed patch defined seed functions treated before ready (e.0, (e.1, (places.0, (places.1, refl)))) refl refl),
+        (end_status treated.tally, summed patch lines defined seed functions quiet treated before ready (e.0, (e.1, (places.0, (places.1, refl)))) refl refl),
       ))
 
-  isos_by : (patch : Patch) (name : List ℕ) (defined : List (List ℕ)) (target : Target) (before : List Act)
-      → PatchRead words old patch (Some name) defined target before → (under : Option (List ℕ)) → Found old.files name under → ⊥
-  isos_by patch name defined target before read None found =
+  isos_by : (patch : Patch) (lines : List (List ℕ)) (name : List ℕ) (defined : List (List ℕ)) (target : Target) (before : List Act)
+      → PatchRead words old patch lines (Some name) defined target before → (under : Option (List ℕ)) → Found old.files name under → ⊥
+  isos_by patch lines name defined target before read None found =
       let loaded : List Act = before ++ Load name patch_limit ∷ [] in
       absent (
         loaded ++ Report (cannot_read name) ∷ [],
-        (5, no_isos patch name defined target loaded (record { before = before; read = read; found = found; acts_are = refl }) refl refl),
+        (5, no_isos patch lines name defined target loaded (record { before = before; read = read; found = found; acts_are = refl }) refl refl),
       )
-  isos_by patch name defined target before read (Some bytes) found =
+  isos_by patch lines name defined target before read (Some bytes) found =
       let loaded : List Act = before ++ Load name patch_limit ∷ [] in
-      let is : IsosFound words old patch name (Some bytes) defined target loaded = record { before = before; read = read; found = found; acts_are = refl } in
+      let is : IsosFound words old patch lines name (Some bytes) defined target loaded =
+      record { before = before; read = read; found = found; acts_are = refl } in
       isos_law bytes
       (λ isos are. elim (forms_law isos patch) [
-        | inl whole ↦ target_by whole.0 defined target loaded (expanded patch name bytes isos is are whole.1)
+        | inl whole ↦ target_by whole.0 lines defined target loaded (expanded patch name bytes isos is are whole.1)
         | inr many ↦
             absent (
               loaded ++ Report (forms_line name many.0) ∷ [],
-              (3, many_forms patch name bytes defined target isos many.0 loaded is are many.1 refl refl),
+              (3, many_forms patch lines name bytes defined target isos many.0 loaded is are many.1 refl refl),
             )
       ])
       (λ fault wrong.
       absent (
-        loaded ++ Report (iso_fault_line name (placed bytes (iso_byte fault)) fault) ∷ [],
-        (3, bad_isos patch name bytes defined target fault loaded is wrong refl refl),
+        loaded ++ Report (iso_fault_line name (told_place (is_quiet target) (placed bytes (iso_byte fault))) fault) ∷ [],
+        (3, bad_isos patch lines name bytes defined target fault loaded is wrong refl refl),
       ))
 
-  read_by : (patch : Patch) (isos : Option (List ℕ)) (defined : List (List ℕ)) (target : Target) (before : List Act)
-      → PatchRead words old patch isos defined target before → ⊥
-  read_by patch None defined target before read = target_by patch defined target before (plain read)
-  read_by patch (Some name) defined target before read =
-      let found = found_some old.files name in isos_by patch name defined target before read found.0 found.1
+  read_by : (patch : Patch) (lines : List (List ℕ)) (isos : Option (List ℕ)) (defined : List (List ℕ)) (target : Target) (before : List Act)
+      → PatchRead words old patch lines isos defined target before → ⊥
+  read_by patch lines None defined target before read = target_by patch lines defined target before (plain read)
+  read_by patch lines (Some name) defined target before read =
+      let found = found_some old.files name in isos_by patch lines name defined target before read found.0 found.1
 
   patch_by : (name : List ℕ) (isos : Option (List ℕ)) (defined : List (List ℕ)) (target : Target)
       → order_of words ≡ Some (Apply name isos defined target) → (under : Option (List ℕ)) → Found old.files name under → ⊥
@@ -114,11 +123,22 @@ module _ (patch_law : PatchLaw) (place_law : PlaceLaw) (isos_law : IsosLaw) (for
   patch_by name isos defined target e (Some bytes) found =
       let is : PatchFound words old name (Some bytes) isos defined target = record { order = e; found = found } in
       patch_law bytes
-      (λ patch read. read_by patch isos defined target (Load name patch_limit ∷ [])
-      (record { name = name; bytes = bytes; found = is; is = read; acts_are = refl }))
+      (λ patch read.
+      let noted = notes_law bytes patch read in
+      let lines : List (List ℕ) = note_lines name (is_some isos) target noted.0 in
+      read_by patch lines isos defined target (Load name patch_limit ∷ []) (record {
+        name = name;
+        bytes = bytes;
+        found = is;
+        is = read;
+        notes = noted.0;
+        are_notes = noted.1;
+        lines_are = refl;
+        acts_are = refl;
+      }))
       (λ fault wrong. place_law bytes fault (λ at there.
       absent (
-        Load name patch_limit ∷ Report (patch_fault_line name (placed bytes at) fault) ∷ [],
+        Load name patch_limit ∷ Report (patch_fault_line name (told_place (is_quiet target) (placed bytes at)) fault) ∷ [],
         (2, bad_patch name bytes isos defined target fault at is wrong there refl refl),
       )))
 

@@ -3,7 +3,7 @@ use Rattle.std.proofs.lemmas.Result.{err_from_is_err_and}
 use Rattle.std.proofs.lemmas.Bool.{false≢true}
 use Rattle.rule_chain.specs.declared.rule_run.fault.FileFault.TheVariants.{NoMemory}
 use Rattle.rule_chain.specs.Chain.{Chain, Refused}
-use Rattle.run_files.specs.Treatment.{faulted}
+use Rattle.run_files.specs.Treatment.{faulted, told_places}
 use Rattle.run_files.specs.Cuts.TreatsPart.{earlier, later}
 use Rattle.run_files.proofs.TreatLemmas.{chain_of, chain_places}
 use Rattle.run_files.proofs.applies.apply_or_refuse.Goals as goal
@@ -27,7 +27,7 @@ returns-in_err-refuse-in-Err-clause-stopped g c =
     rw (← c.in_ok-copy.ensures) (chain_of rules c.args.rules.now.defined.now c.in_ok-copy.copy.items c.in-Err.fault other c.in-Err.ensures.result) in
     let found = chain_places rules c.args.rules.now.defined.now bytes (Refused c.in-Err.fault) made in
     rw (p.1, p.2) (λ files out stores s o s' o'.
-    later (faulted c.args.name.now bytes found.0 c.in-Err.fault)
+    later (faulted c.args.name.now bytes (told_places c.args.quiet found.0) c.in-Err.fault)
     (c.in-Err.fault, (made, (found.0, (found.1, refl))))
     (c.in_err-refuse-in-Err.ensures.stopped found.0 found.1 files out stores s o s' o'))
 

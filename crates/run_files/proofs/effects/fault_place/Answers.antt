@@ -6,7 +6,6 @@ use Rattle.run_files.proofs.effects.fault_place.Goals as goal
 
 pub returns-in_ok-found-in-Conflict : goal.returns-in_ok-found-in-Conflict
 returns-in_ok-found-in-Conflict c = λ found are.
-    let here = c.in_ok-found-in-Conflict.found in
-    let same : here ≡ found = c.places_are_one.ensures c.args.text.now here found c.in_ok-found-in-Conflict.ensures.places are in
     c.placed.ensures.place
-    ∙ ap (placed c.args.text.now) (c.fault_start-start.ensures ∙ ap (λ (f : TextPlaces). fault_start f c.args.fault.now) same)
+    ∙ ap (placed c.args.text.now) (c.fault_start-start.ensures
+    ∙ ap (λ (f : TextPlaces). fault_start f c.args.fault.now) (c.in_ok-found-in-Conflict.ensures found are))

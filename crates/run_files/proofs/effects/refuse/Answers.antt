@@ -4,6 +4,7 @@ use Rattle.std.proofs.lemmas.Result.{err_from_is_err_and, IfErr-weaker, IfOk-wea
 use Rattle.run_acts.specs.Acts.{Report}
 use Rattle.text_places.specs.declared.place.Place.{Place}
 use Rattle.run_files.specs.RunLines.Files.{refused_line, fault_place}
+use Rattle.run_files.specs.Treatment.{told_places}
 use Rattle.run_files.proofs.ActLemmas.{Stops-unfed}
 use Rattle.run_files.proofs.effects.refuse.Goals as goal
 
@@ -15,11 +16,11 @@ returns-in_err-place-clause-stopped g c =
 pub returns-clause-done : goal.returns-clause-done
 returns-clause-done g c =
     on_ok_weaker c.report_made.result (λ h found are files stores out.
-    h (refused_line c.args.name.now (fault_place c.args.text.now found c.args.fault.now) c.args.fault.now) files stores out
+    h (refused_line c.args.name.now (fault_place c.args.text.now (told_places c.args.quiet found) c.args.fault.now) c.args.fault.now) files stores out
     (rw (← c.in_ok-place.ensures found are) c.refused_line.ensures.bytes)) c.report_made.ensures.done
 
 pub returns-clause-stopped : goal.returns-clause-stopped
 returns-clause-stopped g c =
     IfErr-weaker c.report_made.result _ _ (λ stopped h found are files out stores s o s' o'.
-    h (refused_line c.args.name.now (fault_place c.args.text.now found c.args.fault.now) c.args.fault.now) files out stores s o s' o'
+    h (refused_line c.args.name.now (fault_place c.args.text.now (told_places c.args.quiet found) c.args.fault.now) c.args.fault.now) files out stores s o s' o'
     (rw (← c.in_ok-place.ensures found are) c.refused_line.ensures.bytes)) c.report_made.ensures.stopped

@@ -1,5 +1,5 @@
 use Rattle.std.proofs.Common.{◌≡◌, ◌∙◌, ap, refl, inl, arith, get_or}
-use Rattle.std.specs.Prelude.{Option}
+use Rattle.std.specs.Prelude.{Option, None}
 use Rattle.std.proofs.lemmas.Result.{err_from_is_err_and}
 use Rattle.cpp_lines.specs.declared.reading.Why.TheVariants.{NoTree}
 use Rattle.rule_chain.specs.declared.rule_run.state.SkipNote.{SkipNote}
@@ -14,7 +14,7 @@ use Rattle.run_files.proofs.ActLemmas.{stops_at, does_at, own_default}
 use Rattle.run_files.proofs.effects.report_notes.Goals as goal
 
 abbrev none : SkipNote
-none = record { reading = 0; item = 0; why = NoTree }
+none = record { reading = 0; item = 0; why = NoTree; token = None }
 
 pub loop-note-init : goal.loop-note-init
 loop-note-init g c = record { later = omega arith; text = c.of-places.ensures.text; done = λ files stores out. record { observed = refl } }

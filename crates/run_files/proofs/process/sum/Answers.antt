@@ -3,6 +3,7 @@ use Rattle.rule_chain.specs.Chain.{Done}
 use Rattle.std.proofs.lemmas.Result.{err_from_is_err_and}
 use Rattle.run_acts.specs.Acts.{observed}
 use Rattle.run_acts.specs.Breaks.{NoneFell, counts}
+use Rattle.run_files.specs.RunStages.Stages.{generated_name}
 use Rattle.run_files.proofs.TreatLemmas.{applied_some, applied_none, chain_places, sum_refused_all}
 use Rattle.run_files.proofs.TreatLemmas.{sum_refused_part, summed_all, sum_stopped_in_lines, stopped_in_summary}
 use Rattle.run_files.proofs.process.sum.Goals as goal
@@ -12,24 +13,24 @@ returns-in_err-applied-clause-stopped g c =
     let p = err_from_is_err_and c.from_residual.result c.from_residual.ensures.1 in
     let rules = c.args.rules.now in let out = c.args.out.now in
     rw (p.1, p.2, ← c.as_slice-text.ensures.value) (λ files stores n n'.
-    sum_refused_part rules.patch.now rules.defined.now c.args.name.now c.as_slice-text.result.now _ _ _ _ _
+    sum_refused_part rules.patch.now rules.defined.now c.args.quiet c.as_slice-text.result.now _ _ _ _ _
     (c.in_err-applied.ensures.stopped files (g.O.Sink.written out) stores n (g.O.Sink.faults out) n' (g.O.Sink.faults out)))
 
 pub returns-in_default-clause-treated : goal.returns-in_default-clause-treated
-returns-in_default-clause-treated g c = rw (← c.as_slice-text.ensures.value) (λ files stores.
+returns-in_default-clause-treated g c = rw (c.of_refused.ensures, ← c.as_slice-text.ensures.value) (λ files stores.
     let rules = c.args.rules.now in let out = c.args.out.now in
-    let is = applied_none rules.patch.now rules.defined.now c.args.name.now c.as_slice-text.result.now c.in_ok-applied.field-0
+    let is = applied_none rules.patch.now rules.defined.now c.args.quiet generated_name c.as_slice-text.result.now c.in_ok-applied.field-0
     (observed files stores (g.O.Sink.written out) (g.E.Sink.written c.args.err.now))
     (observed files stores (g.O.Sink.written out) (g.E.Sink.written c.apply_or_refuse.new.err))
     c.in_default.not-Some (c.in_ok-applied.ensures.done files stores (g.O.Sink.written out)) in
-    sum_refused_all rules.patch.now rules.defined.now c.args.name.now c.as_slice-text.result.now _ _ is)
+    sum_refused_all rules.patch.now rules.defined.now c.args.quiet c.as_slice-text.result.now _ _ is)
 
 pub returns-in_err-report_skipped-clause-stopped : goal.returns-in_err-report_skipped-clause-stopped
 returns-in_err-report_skipped-clause-stopped g c =
     let p = err_from_is_err_and c.from_residual-in_err-report_skipped.result c.from_residual-in_err-report_skipped.ensures.1 in
     let rules = c.args.rules.now in let out = c.args.out.now in
     rw (p.1, p.2, ← c.as_slice-text.ensures.value) (λ files stores n n'.
-    let is = applied_some rules.patch.now rules.defined.now c.args.name.now c.as_slice-text.result.now c.in_ok-applied.field-0 c.in-Some.applied
+    let is = applied_some rules.patch.now rules.defined.now c.args.quiet generated_name c.as_slice-text.result.now c.in_ok-applied.field-0 c.in-Some.applied
     (observed files stores (g.O.Sink.written out) (g.E.Sink.written c.args.err.now))
     (observed files stores (g.O.Sink.written out) (g.E.Sink.written c.apply_or_refuse.new.err))
     c.in-Some.is (c.in_ok-applied.ensures.done files stores (g.O.Sink.written out)) in
@@ -37,7 +38,7 @@ returns-in_err-report_skipped-clause-stopped g c =
     let fell : NoneFell (counts n (g.O.Sink.faults out) (g.E.Sink.faults c.args.err.now))
     (counts n (g.O.Sink.faults out) (g.E.Sink.faults c.apply_or_refuse.new.err)) =
     record { shelf = omega arith; out = omega arith; err = c.in_ok-applied.ensures.later } in
-    sum_stopped_in_lines rules.patch.now rules.defined.now c.args.name.now c.as_slice-text.result.now is.0 is.1.0
+    sum_stopped_in_lines rules.patch.now rules.defined.now c.args.quiet c.as_slice-text.result.now is.0 is.1.0
     found.0 found.1 c.as_slice.result.now (c.as_slice.ensures ∙ is.1.1.0.skipped) _ _ _ _ _ _ _ fell is.1.1.1
     (c.in_err-report_skipped.ensures.stopped found.0 found.1 files (g.O.Sink.written out) stores n (g.O.Sink.faults out) n' (g.O.Sink.faults out)))
 
@@ -46,7 +47,7 @@ returns-in_err-show_summary-clause-stopped g c =
     let p = err_from_is_err_and c.from_residual-in_err-show_summary.result c.from_residual-in_err-show_summary.ensures.1 in
     let rules = c.args.rules.now in let out = c.args.out.now in
     rw (p.1, p.2, ← c.as_slice-text.ensures.value) (λ files stores n n'.
-    let is = applied_some rules.patch.now rules.defined.now c.args.name.now c.as_slice-text.result.now c.in_ok-applied.field-0 c.in-Some.applied
+    let is = applied_some rules.patch.now rules.defined.now c.args.quiet generated_name c.as_slice-text.result.now c.in_ok-applied.field-0 c.in-Some.applied
     (observed files stores (g.O.Sink.written out) (g.E.Sink.written c.args.err.now))
     (observed files stores (g.O.Sink.written out) (g.E.Sink.written c.apply_or_refuse.new.err))
     c.in-Some.is (c.in_ok-applied.ensures.done files stores (g.O.Sink.written out)) in
@@ -54,7 +55,7 @@ returns-in_err-show_summary-clause-stopped g c =
     let fell : NoneFell (counts n (g.O.Sink.faults out) (g.E.Sink.faults c.args.err.now))
     (counts n (g.O.Sink.faults out) (g.E.Sink.faults c.report_skipped.new.err)) =
     record { shelf = omega arith; out = omega arith; err = omega (arith, c.in_ok-applied.ensures.later, c.in_ok-report_skipped.ensures.later) } in
-    stopped_in_summary rules.patch.now rules.defined.now c.args.name.now c.as_slice-text.result.now is.0 is.1.0
+    stopped_in_summary rules.patch.now rules.defined.now c.args.quiet c.as_slice-text.result.now is.0 is.1.0
     found.0 found.1 c.as_slice.result.now (c.as_slice.ensures ∙ is.1.1.0.skipped) _ _ _ _ _ _ _ _ fell is.1.1.1
     (c.in_ok-report_skipped.ensures.done found.0 found.1 files stores (g.O.Sink.written out))
     (c.in_err-show_summary.ensures.stopped is.0 files stores n n' is.1.1.0))
@@ -62,12 +63,13 @@ returns-in_err-show_summary-clause-stopped g c =
 pub returns-clause-treated : goal.returns-clause-treated
 returns-clause-treated g c = rw (← c.as_slice-text.ensures.value) (λ files stores.
     let rules = c.args.rules.now in let out = c.args.out.now in
-    let is = applied_some rules.patch.now rules.defined.now c.args.name.now c.as_slice-text.result.now c.in_ok-applied.field-0 c.in-Some.applied
+    let is = applied_some rules.patch.now rules.defined.now c.args.quiet generated_name c.as_slice-text.result.now c.in_ok-applied.field-0 c.in-Some.applied
     (observed files stores (g.O.Sink.written out) (g.E.Sink.written c.args.err.now))
     (observed files stores (g.O.Sink.written out) (g.E.Sink.written c.apply_or_refuse.new.err))
     c.in-Some.is (c.in_ok-applied.ensures.done files stores (g.O.Sink.written out)) in
     let found = chain_places rules.patch.now.rules rules.defined.now c.as_slice-text.result.now (Done is.0) is.1.0 in
-    summed_all rules.patch.now rules.defined.now c.args.name.now c.as_slice-text.result.now is.0 is.1.0
-    found.0 found.1 c.as_slice.result.now (c.as_slice.ensures ∙ is.1.1.0.skipped) _ _ _ _ is.1.1.1
+    summed_all rules.patch.now rules.defined.now c.args.quiet c.as_slice-text.result.now is.0 is.1.0
+    found.0 found.1 c.as_slice.result.now (c.as_slice.ensures ∙ is.1.1.0.skipped) c.has_witness.result _ _ _ _
+    (c.has_witness.ensures is.0 is.1.1.0) is.1.1.1
     (c.in_ok-report_skipped.ensures.done found.0 found.1 files stores (g.O.Sink.written out))
     (c.in_ok-show_summary.ensures.done is.0 files stores is.1.1.0))

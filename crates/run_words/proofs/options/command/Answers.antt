@@ -22,4 +22,6 @@ returns c =
     let a8 = c.in_ok-arg-8.ensures.shape c.flag-2.ensures.local ∙ ap₂ with_rule a7 c.flag-2.ensures.rule in
     let a9 = c.in_ok-arg-9.ensures.shape c.flag-3.ensures.local ∙ ap₂ with_rule a8 c.flag-3.ensures.rule in
     let a10 = c.in_ok-arg-10.ensures.shape c.flag-4.ensures.local ∙ ap₂ with_rule a9 c.flag-4.ensures.rule in
-    IfOk-weaker c.arg-11.result _ _ (λ m h. h.shape c.files.ensures.local ∙ ap₂ with_rule a10 c.files.ensures.rule) c.arg-11.ensures
+    let a11 = c.in_ok-arg-11.ensures.shape c.flag-5.ensures.local ∙ ap₂ with_rule a10 c.flag-5.ensures.rule in
+    let a12 = c.in_ok-arg-12.ensures.shape c.flag-6.ensures.local ∙ ap₂ with_rule a11 c.flag-6.ensures.rule in
+    IfOk-weaker c.arg-13.result _ _ (λ m h. h.shape c.files.ensures.local ∙ ap₂ with_rule a12 c.files.ensures.rule) c.arg-13.ensures

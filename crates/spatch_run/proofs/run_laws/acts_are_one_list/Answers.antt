@@ -1,4 +1,5 @@
-use Rattle.spatch_run.proofs.RunLaws.Unique.{ReadOnce, acts_one, first_acts}
+use Rattle.spatch_run.proofs.RunLaws.Unique.{ReadOnce}
+use Rattle.spatch_run.proofs.RunLaws.OnePath.{acts_one, first_acts}
 use Rattle.spatch_run.proofs.run_laws.acts_are_one_list.Goals as goal
 
 pub returns : goal.returns
@@ -7,6 +8,7 @@ returns c =
       patch = λ bytes one other a b. c.patches_are_read_once.ensures.patch bytes one other a.spelled b.spelled;
       patch_fault = c.patches_have_one_fault.ensures.whole;
       patch_apart = c.patches_are_read_once.ensures.faultless;
+      notes = c.patches_are_noted_once.ensures;
       isos = c.isos_are_read_once.ensures.isos;
       isos_fault = c.isos_are_read_once.ensures.fault;
       isos_apart = c.isos_are_read_once.ensures.apart;

@@ -1,7 +1,7 @@
-use Rattle.std.proofs.Common.{[], false, map, refl}
+use Rattle.std.proofs.Common.{[], map, refl}
 use Rattle.std.proofs.lemmas.Result.{err_from_is_err_and}
 use Rattle.run_acts.proofs.BreaksLemmas.{NoneFell-refl}
-use Rattle.run_files.specs.RunStages.Stages.{going}
+use Rattle.run_files.specs.RunStages.Stages.{first_course, going}
 use Rattle.run_files.specs.RunStages.Ends.LeadsBy.{unfed, from}
 use Rattle.spatch_run.proofs.stages.use_patch.Goals as goal
 
@@ -25,10 +25,9 @@ pub returns-in-Files-clause-ends : goal.returns-in-Files-clause-ends
 returns-in-Files-clause-ends g c =
     let ends = rw (c.deref.ensures.value, c.deref-in-Files.ensures.value) at c.edit_files.ensures.ends in
     rw c.in-Files.is (from (going [] c.args.patch.now c.args.order.now.defined.items c.in-Files.mode
-    (map (λ name. name.now) c.in-Files.names.items) false) refl ends)
+    (map (λ name. name.now) c.in-Files.names.items) (first_course (map (λ line. line.items) c.args.notes.now))) refl ends)
 
 pub returns-clause-ends : goal.returns-clause-ends
 returns-clause-ends g c =
     rw c.in-Text.is
-    (rw c.deref.ensures.value at (c.sum_text.ensures.ends (g.S.Loads.holds c.args.outside.now.shelf.now) (g.S.Loads.stores c.args.outside.now.shelf.now)
-    (g.S.Loads.faults c.args.outside.now.shelf.now)))
+    (rw c.deref.ensures.value at (c.sum_text.ensures.ends (map (λ line. line.items) c.args.notes.now)))

@@ -9,30 +9,28 @@ use Rattle.spatch_run.proofs.texts.sum_text.Goals as goal
 pub sum-requires-clause-short : goal.sum-requires-clause-short
 sum-requires-clause-short g c κs within = c.in_ok-text.ensures.fits_a_file c.requires.few
 
-pub returns-in_err-text : goal.returns-in_err-text
-returns-in_err-text g c = record {
-  ends = λ files stores s.
-      let p = err_from_is_err_and c.from_residual.result c.from_residual.ensures.1 in
-      rw (p.1, p.2) (unfed (NoneFell-refl _) refl refl);
-}
+pub returns-in_err-text-clause-ends : goal.returns-in_err-text-clause-ends
+returns-in_err-text-clause-ends g c =
+    let p = err_from_is_err_and c.from_residual.result c.from_residual.ensures.1 in
+    rw (p.1, p.2) (λ notes. unfed (NoneFell-refl _) refl refl)
 
-pub returns-in_err-refused : goal.returns-in_err-refused
-returns-in_err-refused g c = record {
-  ends = λ files stores s.
-      let p = err_from_is_err_and c.from_residual-in_err-refused.result c.from_residual-in_err-refused.ensures.1 in
-      let fell : NoneFell (counts s (g.O.Sink.faults c.args.out.now) (g.E.Sink.faults c.args.err.now))
-      (counts s (g.O.Sink.faults c.sum.new.out) (g.E.Sink.faults c.sum.new.err)) =
-      record { shelf = omega arith; out = c.in_err-refused.ensures.later; err = c.in_err-refused.ensures.later_err } in
-      rw (p.1, p.2) (sum_cut c.args.rules.now.patch.now c.args.rules.now.defined.now c.args.seed c.args.functions fell
-      (rw c.in_ok-text.ensures.text at (c.in_err-refused.ensures.stopped files stores s s)));
-}
+pub returns-in_err-tally-clause-ends : goal.returns-in_err-tally-clause-ends
+returns-in_err-tally-clause-ends g c =
+    let p = err_from_is_err_and c.from_residual-in_err-tally.result c.from_residual-in_err-tally.ensures.1 in
+    let old = c.args.outside.now in
+    let s = g.S.Loads.faults old.shelf.now in
+    let fell : NoneFell (counts s (g.O.Sink.faults old.out.now) (g.E.Sink.faults old.err.now))
+    (counts s (g.O.Sink.faults c.sum.new.out) (g.E.Sink.faults c.sum.new.err)) =
+    record { shelf = omega arith; out = c.in_err-tally.ensures.later; err = c.in_err-tally.ensures.later_err } in
+    rw (p.1, p.2) (λ notes. sum_cut c.args.rules.now.patch.now notes c.args.rules.now.defined.now c.args.seed c.args.functions c.args.quiet fell
+    (rw c.in_ok-text.ensures.text at (c.in_err-tally.ensures.stopped (g.S.Loads.holds old.shelf.now) (g.S.Loads.stores old.shelf.now) s s)))
 
-pub returns : goal.returns
-returns g c = record {
-  ends = λ files stores s.
-      let fell : NoneFell (counts s (g.O.Sink.faults c.args.out.now) (g.E.Sink.faults c.args.err.now))
-      (counts s (g.O.Sink.faults c.sum.new.out) (g.E.Sink.faults c.sum.new.err)) =
-      record { shelf = omega arith; out = c.in_ok-refused.ensures.later; err = c.in_ok-refused.ensures.later_err } in
-      sum_done c.args.rules.now.patch.now c.args.rules.now.defined.now c.args.seed c.args.functions c.in_ok-refused.refused fell
-      c.end_status.ensures (rw c.in_ok-text.ensures.text at (c.in_ok-refused.ensures.treated files stores));
-}
+pub returns-clause-ends : goal.returns-clause-ends
+returns-clause-ends g c =
+    let old = c.args.outside.now in
+    let s = g.S.Loads.faults old.shelf.now in
+    let fell : NoneFell (counts s (g.O.Sink.faults old.out.now) (g.E.Sink.faults old.err.now))
+    (counts s (g.O.Sink.faults c.sum.new.out) (g.E.Sink.faults c.sum.new.err)) =
+    record { shelf = omega arith; out = c.in_ok-tally.ensures.later; err = c.in_ok-tally.ensures.later_err } in
+    λ notes. sum_done c.args.rules.now.patch.now notes c.args.rules.now.defined.now c.args.seed c.args.functions c.args.quiet c.in_ok-tally.tally fell
+    c.end_status.ensures (rw c.in_ok-text.ensures.text at (c.in_ok-tally.ensures.treated (g.S.Loads.holds old.shelf.now) (g.S.Loads.stores old.shelf.now)))

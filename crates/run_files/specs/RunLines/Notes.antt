@@ -1,0 +1,42 @@
+-- The lines of the notes on a patch.
+use Rattle.std.specs.Prelude.{ℕ, Bool, cond, List, [], ◌++◌, Option, Some, None, map, codes}
+use Rattle.std.specs.List.{filter}
+use Rattle.std.specs.Fmt.{decimal}
+use Rattle.outer_io.specs.EscapedNames.Escapes.{escaped_name}
+use Rattle.text_places.specs.declared.place.Place.{Place}
+use Rattle.smpl_notes.specs.declared.note.Note.{Note}
+use Rattle.smpl_notes.specs.declared.note.Note.TheVariants.{NoSign, InRule}
+use Rattle.smpl_notes.specs.Sentences.{sentence}
+use Rattle.smpl_notes.specs.Told.{is_told}
+use Rattle.run_words.specs.declared.order.Mode.{Mode}
+use Rattle.run_words.specs.Orders.{Target, OnFiles, OnText}
+use Rattle.run_files.specs.RunLines.Further.{further}
+
+abbrev pub noted : List ℕ → List ℕ
+noted text = codes "note: " ++ text
+
+-- a note without a place: two blanks, the name, the rule if there is one, and what is noted
+abbrev pub unplaced_line : List ℕ → List ℕ → List ℕ → List ℕ
+unplaced_line name rule what = codes "  " ++ escaped_name name ++ codes ": " ++ rule ++ what ++ codes "\n"
+
+abbrev pub rule_text : ℕ → List ℕ
+rule_text rule = codes "rule " ++ decimal rule ++ codes ": "
+
+abbrev pub rule_line : List ℕ → ℕ → Option Place → List ℕ → List ℕ
+rule_line name rule (Some place) what = further name place what
+rule_line name rule None what = unplaced_line name (rule_text rule) what
+
+-- the line that says this of where a note is
+abbrev pub line_at : List ℕ → Note → List ℕ → List ℕ
+line_at name NoSign what = unplaced_line name [] what
+line_at name (InRule rule place slip) what = rule_line name rule place what
+
+-- the line of a note on the patch of this name
+abbrev pub note_line : List ℕ → Note → List ℕ
+note_line name note = line_at name note (noted (sentence note))
+
+-- the lines of the notes that a run tells if nothing is found: none on a generated text, and none under `--quiet`
+abbrev pub note_lines : List ℕ → (has_isos : Bool) → Target → List Note → List (List ℕ)
+note_lines name has_isos (OnFiles mode names) notes =
+    cond mode.quiet [] (map (note_line name) (filter (is_told has_isos mode.witnesses) notes))
+note_lines name has_isos (OnText seed functions quiet) notes = []

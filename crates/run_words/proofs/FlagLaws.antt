@@ -1,0 +1,3 @@
+-- Lemmas of flag_laws.
+-- Lemmas: what words with other flags ask for.
+pub mod FlagLemmas

@@ -1,0 +1,5 @@
+@@
+expression E;
+@@
+- g(E)
++ h(E)

@@ -1,0 +1,9 @@
+void f(void)
+{
+	asm volatile ("nop");
+	old();
+}
+void g(void)
+{
+	old();
+}

@@ -1,0 +1,8 @@
+int k(void)
+{
+	a();
+}
+void l(void)
+{
+	b();
+}

@@ -1,2 +1,5 @@
 -- Lemmas of item_graphs.
 pub mod TreeLemmas
+pub mod GraphLemmas
+pub mod PoolLemmas
+pub mod ReachLemmas

@@ -7,5 +7,6 @@
 #![tactic(auto)]
 
 mod graphs;
+mod reached;
 
 pub use graphs::Graphs;

@@ -69,6 +69,7 @@ fn atom_set(
     s: u32,
 ) -> Result<EnvSet, NoMemory>
     requires node { s < count_of g.now }
+    requires types { context.now.types.now ≡ g.now.types }
     requires form_groups { AreFormGroups p.now form_groups.now }
     ensures gives { IfOk result (λ r. (env : Environment) →
         set_denotes r env ≡ atom_at context.now.decls.now context.now.tokens.now g.now p.now s env) }
@@ -90,6 +91,7 @@ fn placed_set(
     s: u32,
 ) -> Result<EnvSet, NoMemory>
     requires node { s < count_of g.now }
+    requires types { context.now.types.now ≡ g.now.types }
     requires form_groups { AreFormGroups p.now form_groups.now }
     ensures gives { IfOk result (λ r. (env : Environment) → set_denotes r env
         ≡ brace_at context.now.decls.now context.now.tokens.now g.now (λ k. true) p.now b.now s env) }
@@ -113,6 +115,7 @@ fn open_set(
     s: u32,
 ) -> Result<EnvSet, NoMemory>
     requires node { s < count_of g.now }
+    requires types { context.now.types.now ≡ g.now.types }
     requires form_groups { AreFormGroups p.now form_groups.now }
     ensures gives { IfOk result (λ r. (env : Environment) → set_denotes r env
         ≡ brace_at context.now.decls.now context.now.tokens.now g.now spec.is_open p.now b.now s env) }
@@ -137,6 +140,7 @@ fn close_set(
     s: u32,
 ) -> Result<EnvSet, NoMemory>
     requires node { s < count_of g.now }
+    requires types { context.now.types.now ≡ g.now.types }
     requires form_groups { AreFormGroups p.now form_groups.now }
     ensures gives { IfOk result (λ r. (env : Environment) → set_denotes r env
         ≡ brace_at context.now.decls.now context.now.tokens.now g.now spec.is_close p.now b.now s env) }
@@ -223,9 +227,11 @@ fn point_set(
         → step_vars f.now.decls f.now.tokens (λ t i. row_vars t (row_of rows.now i)) test node.now ≡ true
         → set_vars test r ≡ true) }
 {
+    let types = g.types();
     let context = PatternContext {
         decls: f.decls(),
         tokens: f.tokens(),
+        types: &types,
     };
     match node {
         Node::True => EnvSet::all(alloc),

@@ -27,11 +27,12 @@ pub struct Formula {
 impl Model for Formula {
     ghost use Rattle.std.specs.Coded.{codes};
     ghost use Rattle.c_terms.specs.contracts.tree.Tree as tree;
+    ghost use Rattle.c_types.specs.contracts.ty.Ty as ty;
     ghost use Rattle.ctl_formula.specs.Formulas.{FormulaOf};
 
     ghost Value = { FormulaOf };
 
-    ghost coded = { Prim.hlevel (codes, tree.the_row.coded) };
+    ghost coded = { Prim.hlevel (codes, tree.the_row.coded, ty.the_row.coded) };
 
     ghost use Rattle.ctl_formula.specs.Formulas.{IsFormula};
 

@@ -3,6 +3,7 @@
 -- edits, and what the text requires of them.
 pub mod Touches
 pub mod Keys
+pub mod Nodes
 pub mod Named
 pub mod Edited
 pub mod Fit

@@ -2,7 +2,8 @@
 //!
 //! - [`edits`] returns the edits of witnesses, one per touch, in the order of the touches, keeping the first of several
 //!   equal ones.
-//! - [`node_kinds`] returns the kinds of a graph's nodes, which is all that [`edits`] needs of the items' graphs.
+//! - [`ItemNodes`] has the kinds of a graph's nodes and the types that are known of the item's expressions, which is all that
+//!   [`edits`] needs of the items' graphs.
 //! - [`witnesses_have_one_list`] is a law: its definition allows witnesses only one list of edits. The function does
 //!   nothing.
 //!
@@ -22,14 +23,14 @@
 
 mod aligned;
 mod context;
-mod kinds;
 mod laws;
+mod nodes;
 mod numbers;
 mod patterns;
 mod tokens;
 mod touch;
 mod walk;
 
-pub use kinds::node_kinds;
 pub use laws::witnesses_have_one_list;
+pub use nodes::ItemNodes;
 pub use walk::edits;

@@ -39,7 +39,7 @@ mod values;
 
 pub use alignment_edit::edit_of;
 pub use edit_conflict::{Act, Clash, Edit, EditList, Insert, Mark, Side, first_clash};
-pub use edit_walk::{edits, node_kinds, witnesses_have_one_list};
+pub use edit_walk::{ItemNodes, edits, witnesses_have_one_list};
 pub use even::have_even_blocks;
 pub use file_tokens::{FileToken, FileTokens};
 pub use insert::{Anchor, ends_line, indent_at, insert_text};

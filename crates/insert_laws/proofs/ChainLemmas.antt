@@ -14,7 +14,7 @@ use Rattle.smpl_patch.specs.Shapes.{patterns_body}
 use Rattle.ctl_translate.specs.Rules.{first_unbound}
 use Rattle.rule_envs.specs.declared.file_env.FileEnv.{FileEnv}
 use Rattle.rule_chain.specs.RuleMatches.Matching.{rule_found, file_envs_after}
-use Rattle.rule_chain.specs.RuleEdits.Kinds.{kinds_of}
+use Rattle.rule_chain.specs.RuleEdits.Nodes.{nodes_of}
 use Rattle.rule_chain.specs.RuleEdits.Pages.{is_edited}
 use Rattle.rule_chain.specs.RuleRun.States.{Chained, ReadsAgain, first_state}
 use Rattle.rule_chain.specs.RuleRun.OneRule.{MayRead, Leads, file_witnesses, state_after}
@@ -47,9 +47,9 @@ module _ (aligned_law : AlignedLaw) (path_law : PathLaw) (bare_law : BareLaw) (m
     (items : List Item) (pieces : List TextPiece) where
   touch_instantiated : (t : Touched) → ShowsTerms metas rule items t → IsInstantiated rule items pieces t
   touch_instantiated t shows =
-      let qs : List Aligned = pairs_at (patterns_body (body rule.body)) rule.vars rule.tokens items (kinds_of items) (ids_of pieces) t in
+      let qs : List Aligned = pairs_at (patterns_body (body rule.body)) rule.vars rule.tokens items (nodes_of rule items) (ids_of pieces) t in
       let used : All (λ (q : Aligned). IsUsed rule.vars rule.tokens shows.pattern q.pattern) qs =
-      touch_used rule.vars rule.tokens aligned_law path_law bare_law (patterns_body (body rule.body)) fit.distinct items (ids_of pieces) shows.pattern
+      touch_used rule.vars rule.tokens aligned_law path_law bare_law (patterns_body (body rule.body)) fit.distinct rule items (ids_of pieces) shows.pattern
       shows.among (All-contains (KeepsPlus rule.vars rule.tokens) (patterns_body (body rule.body)) shows.pattern fit.keeps shows.among)
       t shows.atom shows.stands in
       all_shown rule.vars t.env rule.tokens fit.plus qs

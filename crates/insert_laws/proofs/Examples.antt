@@ -10,6 +10,7 @@ use Rattle.smpl_terms.specs.declared.value.Value.TheVariants.{Term, Place}
 use Rattle.smpl_patch.specs.declared.pattern.VarDecl.{VarDecl}
 use Rattle.smpl_patch.specs.declared.pattern.VarKind.TheVariants as var_kind
 use Rattle.smpl_patch.specs.declared.pattern.PlusBlock.{PlusBlock}
+use Rattle.smpl_patch.specs.Wants.{anything}
 use Rattle.edit_marks.specs.Blocks.{Environment}
 use Rattle.insert_laws.specs.Instantiated.{IsInstantiatedBlock}
 
@@ -17,7 +18,7 @@ abbrev x : Var
 x = record { rule = 0; name = codes "x" }
 
 abbrev declared : List VarDecl
-declared = record { var = x; kind = var_kind.Meta meta.Expr; inherited = false; not_names = []; not_places = [] } ∷ []
+declared = record { var = x; kind = var_kind.Meta meta.Expr; inherited = false; not_names = []; not_places = []; wanted = anything } ∷ []
 
 -- `x`, in plus code
 abbrev shown : Token

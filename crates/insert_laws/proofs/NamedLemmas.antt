@@ -1,7 +1,8 @@
 -- The plus code at the pattern tokens of a touch is used in the pattern of the touched atom.
 use Rattle.std.proofs.Common.{◌≡◌, ℕ, zero, suc, ◌+◌, ◌<◌, ◌^◌, Bool, true, false, not, ◌&&◌, ◌||◌, cond, eqb, refl, sym, ap, ◌∙◌, subst, arith}
 use Rattle.std.proofs.Common.{⊎_elim, List, [], ◌∷◌, ◌++◌, map, length, get_or, Option, None, Some, slice_get, Contains, if◌then◌else◌}
-use Rattle.std.specs.Prelude.{All, option_and_then, nat_lt, nat_eq}
+use Rattle.std.specs.Prelude.{All, option_and_then, nat_lt, nat_eq, take}
+use Rattle.std.specs.Option.{option_map}
 use Rattle.std.specs.List.{list_any, flat_map, filter_map, position_from}
 use Rattle.std.proofs.lemmas.Bool.Decides.{nat_tests}
 use Rattle.std.proofs.lemmas.Bool.{eqb-true}
@@ -13,22 +14,28 @@ use Rattle.c_terms.specs.Trees.{leaves}
 use Rattle.c_terms.specs.Places.{Place, subtree}
 use Rattle.cpp_lines.specs.declared.reading.Item.{Item}
 use Rattle.cpp_lines.specs.declared.reading.Item.TheVariants.{Parsed, Skipped}
+use Rattle.c_types.specs.Tables.{ItemTypes}
+use Rattle.c_file.specs.Fit.{item_graph}
+use Rattle.c_file.specs.ItemGraphs.Trees.{item_tree}
+use Rattle.c_file.specs.ItemGraphs.Typed.{scope_of, typed_tree, graph_in}
+use Rattle.c_file.proofs.ItemGraphs.GraphLemmas.{graph_there}
 use Rattle.cfg_build.specs.declared.cfg_graph.label.NodeKind.{NodeKind}
 use Rattle.cfg_build.specs.declared.cfg_graph.label.NodeKind.TheVariants as kind
 use Rattle.cfg_build.specs.declared.cfg_graph.label.NodeLabel.{NodeLabel}
 use Rattle.cfg_build.specs.CfgGraph.Flow.{Flow}
 use Rattle.cfg_build.specs.Graphs.{graph_of}
-use Rattle.c_file.specs.Fit.{item_graph}
 use Rattle.smpl_terms.specs.declared.var.Var.{Var}
 use Rattle.smpl_terms.specs.Environments.{Environment, total}
 use Rattle.smpl_patch.specs.declared.pattern.VarDecl.{VarDecl}
 use Rattle.smpl_patch.specs.declared.pattern.PatToken.{PatToken}
 use Rattle.smpl_patch.specs.declared.pattern.Pattern.{Pattern}
+use Rattle.smpl_patch.specs.declared.rule.Rule.{Rule}
 use Rattle.smpl_patch.specs.declared.pattern.Spot.{Spot}
 use Rattle.smpl_patch.specs.declared.pattern.Spot.TheVariants as spot
 use Rattle.smpl_patch.specs.Held.{held}
 use Rattle.smpl_patch.specs.Patterns.{in_first, is_own, in_plus, used_in, used}
 use Rattle.smpl_patch.specs.Sound.{none_alike}
+use Rattle.smpl_patch.specs.Wants.{ask_types}
 use Rattle.pat_match.specs.Spots.{seats, fits_at, alignment_at}
 use Rattle.pat_match.specs.Runs.{Pair}
 use Rattle.pat_match.specs.Roles.{role_at, may_stand}
@@ -37,11 +44,14 @@ use Rattle.pat_match.specs.Matching.{is_live_in, fits_seat}
 use Rattle.pat_match.specs.declared.pat_pairs.pairs.AlignedToken.{AlignedToken}
 use Rattle.pat_match.specs.PatPairs.Pairs.{aligned_token, numbers, first_aligned, aligned_tokens}
 use Rattle.ctl_fixpoint.proofs.CtlHolds.TestLemmas.{or_cases, or_left, or_right, and_left, and_right, not_both, not_true}
+use Rattle.edit_marks.specs.declared.edit_walk.nodes.ItemNodes.{ItemNodes}
 use Rattle.edit_marks.specs.declared.removals.Aligned.{Aligned}
 use Rattle.edit_marks.specs.EditWalk.Keys.{number_of}
 use Rattle.edit_marks.specs.EditWalk.Touches.{Touched}
-use Rattle.edit_marks.specs.EditWalk.Named.{pattern_of, kind_at, part_of, tree_at, numbered, pairs_of, pairs_at}
-use Rattle.rule_chain.specs.RuleEdits.Kinds.{graph_kinds, kinds_of}
+use Rattle.edit_marks.specs.EditWalk.Named.{pattern_of, part_of, tree_at, numbered, pairs_of, pairs_at}
+use Rattle.edit_marks.specs.EditWalk.Nodes.{kind_at, types_at}
+use Rattle.rule_chain.specs.RuleEdits.Nodes.{graph_nodes, nodes_of}
+use Rattle.rule_chain.specs.FileWitnesses.Seen.{seen_graph, seen_graphs}
 use Rattle.insert_laws.specs.AlignedLaws.Compared.{compared, IsCompared, is_head_tree, HasNoBodies}
 use Rattle.insert_laws.specs.TouchLaws.Metas.{StandsAt}
 
@@ -133,12 +143,14 @@ PathLaw = (t : Tree) (n : ℕ) (l : NodeLabel) → slice_get (graph_of t).labels
 abbrev pub BareLaw : Type 0
 BareLaw = (t : Tree) (n : ℕ) (l : NodeLabel) → slice_get (graph_of t).labels n ≡ Some l → l.kind ≡ kind.Simple → is_head_tree l.tree ≡ false
 
-module _ (path_law : PathLaw) (bare_law : BareLaw) (items : List Item) (p : Pattern) (t : Touched) (at : StandsAt items p t) where
-  kind_known : (item : Item) → slice_get items t.item ≡ Some item → item_graph (Some item) ≡ Some at.graph
-      → kind_at (kinds_of items) t.item t.node ≡ Some at.label.kind
+module _ (path_law : PathLaw) (bare_law : BareLaw) (rule : Rule) (items : List Item) (p : Pattern) (t : Touched) (at : StandsAt rule items p t) where
+  -- the graph that the rule sees is at its place among those of all items
+  kind_known : (item : Item) → slice_get items t.item ≡ Some item → seen_graph rule items t.item ≡ Some at.graph
+      → kind_at (nodes_of rule items) t.item t.node ≡ Some at.label.kind
   kind_known item e g =
-      ap (option_and_then (λ (own : List NodeKind). slice_get own t.node))
-      (get_map (λ (i : Item). graph_kinds (item_graph (Some i))) items t.item item e ∙ ap (λ (o : Option Flow). Some (graph_kinds o)) g)
+      ap (option_and_then (λ (own : ItemNodes). slice_get own.kinds t.node))
+      (get_map graph_nodes (seen_graphs rule items) t.item (Some at.graph)
+      (graph_there (ask_types rule.vars) items t.item item e ∙ ap (λ (o : Option Flow). Some o) g))
       ∙ get_map (λ (n : NodeLabel). n.kind) at.graph.labels t.node at.label at.label_is
 
   whole_seat : (s : Spot) → p.spot ≡ s → s ≡ spot.Whole → t.path ≡ at.label.path
@@ -154,13 +166,31 @@ module _ (path_law : PathLaw) (bare_law : BareLaw) (items : List Item) (p : Patt
   simple_other : kind.Simple ≡ kind.ExitNode → ⊥
   simple_other e = absurd (cc)
 
-  no_bodies_by : (item : Item) → slice_get items t.item ≡ Some item → item_graph (Some item) ≡ Some at.graph → (k : NodeKind)
-      → kind_at (kinds_of items) t.item t.node ≡ Some k → (tree : Tree) → tree_at items t.item t.path ≡ Some tree
+  -- types change no label
+  seen_labels : (typed : Bool) (root : Tree) → slice_get items t.item ≡ Some (Parsed root) → graph_in typed items t.item ≡ Some at.graph
+      → (graph_of root).labels ≡ at.graph.labels
+  seen_labels true root e h =
+      let scope = scope_of (take t.item items) in
+      let is : Some (typed_tree scope root) ≡ Some at.graph = sym (ap (λ (o : Option Item). option_map (typed_tree scope) (item_tree o)) e) ∙ h in
+      ap (λ (f : Flow). f.labels) (some_equal (typed_tree scope root) at.graph is)
+  seen_labels false root e h = ap (λ (f : Flow). f.labels) (some_equal (graph_of root) at.graph (sym (ap item_graph e) ∙ h))
+
+  -- an item without a tree has no graph
+  no_graph : (typed : Bool) (o : Option Item) → slice_get items t.item ≡ o → item_tree o ≡ None → item_graph o ≡ None
+      → graph_in typed items t.item ≡ Some at.graph → ⊥
+  no_graph true o e n m h =
+      let seen : Option Tree → Option Flow = option_map (typed_tree (scope_of (take t.item items))) in
+      let is : None ≡ Some at.graph = sym (ap (λ (i : Option Item). seen (item_tree i)) e ∙ ap seen n) ∙ h in
+      absurd (cc)
+  no_graph false o e n m h = let is : None ≡ Some at.graph = sym (ap item_graph e ∙ m) ∙ h in absurd (cc)
+
+  no_bodies_by : (item : Item) → slice_get items t.item ≡ Some item → seen_graph rule items t.item ≡ Some at.graph → (k : NodeKind)
+      → kind_at (nodes_of rule items) t.item t.node ≡ Some k → (tree : Tree) → tree_at items t.item t.path ≡ Some tree
       → p.spot ≡ spot.Whole → k ≡ kind.Simple → is_head_tree tree ≡ false
-  no_bodies_by (Skipped span why) e g k ke tree te w s = absurd (cc)
+  no_bodies_by (Skipped span why) e g k ke tree te w s = absurd (no_graph (ask_types rule.vars) (Some (Skipped span why)) e refl refl g)
   no_bodies_by (Parsed root) e g k ke tree te w s =
-      let graph : graph_of root ≡ at.graph = some_equal (graph_of root) at.graph g in
-      let label : slice_get (graph_of root).labels t.node ≡ Some at.label = ap (λ (f : Flow). slice_get f.labels t.node) graph ∙ at.label_is in
+      let graph : (graph_of root).labels ≡ at.graph.labels = seen_labels (ask_types rule.vars) root e g in
+      let label : slice_get (graph_of root).labels t.node ≡ Some at.label = ap (λ (ls : List NodeLabel). slice_get ls t.node) graph ∙ at.label_is in
       let simple : at.label.kind ≡ kind.Simple = some_equal at.label.kind k (sym (kind_known (Parsed root) e g) ∙ ke) ∙ s in
       let path : t.path ≡ at.label.path = whole_seat p.spot refl w in
       let there : subtree root at.label.path ≡ Some at.label.tree = path_law root t.node at.label label (λ x. simple_other (sym simple ∙ x)) in
@@ -169,12 +199,12 @@ module _ (path_law : PathLaw) (bare_law : BareLaw) (items : List Item) (p : Patt
       ap is_head_tree (sym same) ∙ bare_law root t.node at.label label simple
 
   -- a tree that a simple node holds as a whole has no bodies
-  pub no_bodies : (k : NodeKind) → kind_at (kinds_of items) t.item t.node ≡ Some k → (tree : Tree) → tree_at items t.item t.path ≡ Some tree
+  pub no_bodies : (k : NodeKind) → kind_at (nodes_of rule items) t.item t.node ≡ Some k → (tree : Tree) → tree_at items t.item t.path ≡ Some tree
       → HasNoBodies p.spot k tree
   no_bodies k ke tree te = by (slice_get items t.item) refl at.graph_is
     where
-      by : (o : Option Item) → slice_get items t.item ≡ o → item_graph o ≡ Some at.graph → HasNoBodies p.spot k tree
-      by None e g = absurd (cc)
+      by : (o : Option Item) → slice_get items t.item ≡ o → seen_graph rule items t.item ≡ Some at.graph → HasNoBodies p.spot k tree
+      by None e g = absurd (no_graph (ask_types rule.vars) None e refl refl g)
       by (Some item) e g = λ w s. no_bodies_by item e g k ke tree te w s
 
 -- ---- the tokens that take part
@@ -186,8 +216,9 @@ KeepsPlus vars tokens p =
     → in_first (compared (λ a. in_plus vars (slice_get tokens a.id) x) p.spot) p.forms ≡ true) p.forms
 
 abbrev pub AlignedLaw : Type 0
-AlignedLaw = (decls : List VarDecl) (tokens : List PatToken) (env : Environment) (q : Token → Bool) (s : Spot) (k : NodeKind) (form t : Tree)
-    → HasNoBodies s k t → fits_at decls tokens env s k form t ≡ true → All (IsCompared q s form) (alignment_at decls tokens env s k form t)
+AlignedLaw = (decls : List VarDecl) (tokens : List PatToken) (types : ItemTypes) (env : Environment) (q : Token → Bool) (s : Spot) (k : NodeKind)
+    (form t : Tree)
+    → HasNoBodies s k t → fits_at decls tokens types env s k form t ≡ true → All (IsCompared q s form) (alignment_at decls tokens types env s k form t)
 
 module _ (vars : List VarDecl) (tokens : List PatToken) where
   abbrev shows : Var → Token → Bool
@@ -217,7 +248,7 @@ module _ (vars : List VarDecl) (tokens : List PatToken) where
   abbrev pub IsUsed : Pattern → ℕ → Type 0
   IsUsed p n = (x : Var) → in_plus vars (slice_get tokens n) x ≡ true → used vars tokens p x ≡ true
 
-  module _ (law : AlignedLaw) (env : Environment) (p : Pattern) (keeps : KeepsPlus vars tokens p) (r : NodeRole) (tree : Tree)
+  module _ (law : AlignedLaw) (types : ItemTypes) (env : Environment) (p : Pattern) (keeps : KeepsPlus vars tokens p) (r : NodeRole) (tree : Tree)
       (bare : HasNoBodies p.spot r.kind tree) where
     pairs_used : (f : Tree) → Contains p.forms f → (ps : List Pair) → ((x : Var) → All (IsCompared (shows x) p.spot f) ps)
         → All (λ (a : AlignedToken). IsUsed p a.pattern) (numbers ps)
@@ -233,21 +264,21 @@ module _ (vars : List VarDecl) (tokens : List PatToken) where
     SomeUsed None = Unit {0}
     SomeUsed (Some ps) = All (λ (a : AlignedToken). IsUsed p a.pattern) ps
 
-    first_aligned_used : (fs : List Tree) → ((f : Tree) → Contains fs f → Contains p.forms f) → SomeUsed (first_aligned vars tokens env p r tree fs)
+    first_aligned_used : (fs : List Tree) → ((f : Tree) → Contains fs f → Contains p.forms f) → SomeUsed (first_aligned vars tokens types env p r tree fs)
     first_aligned_used [] c = tt
     first_aligned_used (f ∷ fs) c =
         let rest : (g : Tree) → Contains fs g → Contains p.forms g = λ g d. c g (suc d.0, omega (arith, d.1), d.2) in
-        by (fits_seat vars tokens env p r f tree) refl (first_aligned_used fs rest)
+        by (fits_seat vars tokens types env p r f tree) refl (first_aligned_used fs rest)
       where
-        by : (b : Bool) → fits_seat vars tokens env p r f tree ≡ b → SomeUsed (first_aligned vars tokens env p r tree fs)
-            → SomeUsed (cond b (Some (numbers (alignment_at vars tokens env p.spot r.kind f tree))) (first_aligned vars tokens env p r tree fs))
+        by : (b : Bool) → fits_seat vars tokens types env p r f tree ≡ b → SomeUsed (first_aligned vars tokens types env p r tree fs)
+            → SomeUsed (cond b (Some (numbers (alignment_at vars tokens types env p.spot r.kind f tree))) (first_aligned vars tokens types env p r tree fs))
         by true e more =
-            pairs_used f (c f (zero, omega arith, refl)) (alignment_at vars tokens env p.spot r.kind f tree)
-            (λ x. law vars tokens env (shows x) p.spot r.kind f tree bare
-            (and_right (is_live_in vars tokens p f && may_stand r f) (fits_at vars tokens env p.spot r.kind f tree) e))
+            pairs_used f (c f (zero, omega arith, refl)) (alignment_at vars tokens types env p.spot r.kind f tree)
+            (λ x. law vars tokens types env (shows x) p.spot r.kind f tree bare
+            (and_right (is_live_in vars tokens p f && may_stand r f) (fits_at vars tokens types env p.spot r.kind f tree) e))
         by false e more = more
 
-    pub aligned_used : SomeUsed (aligned_tokens vars tokens env p r tree)
+    pub aligned_used : SomeUsed (aligned_tokens vars tokens types env p r tree)
     aligned_used = first_aligned_used p.forms (λ f c. c)
 
   -- ---- by numbers
@@ -273,43 +304,46 @@ module _ (vars : List VarDecl) (tokens : List PatToken) where
   -- ---- at a touch
 
   module _ (law : AlignedLaw) (path_law : PathLaw) (bare_law : BareLaw) (patterns : List Pattern) (distinct : none_alike alike patterns ≡ true)
-      (items : List Item) (ids : List ℕ) (p : Pattern) (among : Contains patterns p) (keeps : KeepsPlus vars tokens p)
-      (t : Touched) (atom : p.atom ≡ t.atom) (at : StandsAt items p t) where
+      (rule : Rule) (items : List Item) (ids : List ℕ) (p : Pattern) (among : Contains patterns p) (keeps : KeepsPlus vars tokens p)
+      (t : Touched) (atom : p.atom ≡ t.atom) (at : StandsAt rule items p t) where
+    abbrev known : ItemTypes
+    known = types_at (nodes_of rule items) t.item
+
     abbrev Used : List Aligned → Type 0
     Used qs = All (λ (q : Aligned). IsUsed p q.pattern) qs
 
-    by_tree : (k : NodeKind) → kind_at (kinds_of items) t.item t.node ≡ Some k → (o : Option Tree) → tree_at items t.item t.path ≡ o
-        → Used (pairs_of ids (option_and_then (λ tree. aligned_tokens vars tokens (total t.env) p (role_at k t.path) tree) o))
+    by_tree : (k : NodeKind) → kind_at (nodes_of rule items) t.item t.node ≡ Some k → (o : Option Tree) → tree_at items t.item t.path ≡ o
+        → Used (pairs_of ids (option_and_then (λ tree. aligned_tokens vars tokens known (total t.env) p (role_at k t.path) tree) o))
     by_tree k ke None te = All-nil (λ (q : Aligned). IsUsed p q.pattern)
     by_tree k ke (Some tree) te =
-        of_aligned (aligned_tokens vars tokens (total t.env) p (role_at k t.path) tree)
-        (aligned_used law (total t.env) p keeps (role_at k t.path) tree (no_bodies path_law bare_law items p t at k ke tree te))
+        of_aligned (aligned_tokens vars tokens known (total t.env) p (role_at k t.path) tree)
+        (aligned_used law known (total t.env) p keeps (role_at k t.path) tree (no_bodies path_law bare_law rule items p t at k ke tree te))
       where
         of_aligned : (o : Option (List AlignedToken))
-            → SomeUsed law (total t.env) p keeps (role_at k t.path) tree (no_bodies path_law bare_law items p t at k ke tree te) o
+            → SomeUsed law known (total t.env) p keeps (role_at k t.path) tree (no_bodies path_law bare_law rule items p t at k ke tree te) o
             → Used (pairs_of ids o)
         of_aligned None h = All-nil (λ (q : Aligned). IsUsed p q.pattern)
         of_aligned (Some ps) h = all_numbered p ids ps h
 
-    by_kind : (o : Option NodeKind) → kind_at (kinds_of items) t.item t.node ≡ o
-        → Used (pairs_of ids (option_and_then (λ k. option_and_then (λ tree. aligned_tokens vars tokens (total t.env) p (role_at k t.path) tree)
+    by_kind : (o : Option NodeKind) → kind_at (nodes_of rule items) t.item t.node ≡ o
+        → Used (pairs_of ids (option_and_then (λ k. option_and_then (λ tree. aligned_tokens vars tokens known (total t.env) p (role_at k t.path) tree)
         (tree_at items t.item t.path)) o))
     by_kind None ke = All-nil (λ (q : Aligned). IsUsed p q.pattern)
     by_kind (Some k) ke = by_tree k ke (tree_at items t.item t.path) refl
 
     by_pattern : (o : Option Pattern) → pattern_of patterns t.atom ≡ o
         → Used (pairs_of ids (option_and_then
-        (λ q. option_and_then (λ k. option_and_then (λ tree. aligned_tokens vars tokens (total t.env) q (role_at k t.path) tree)
-        (tree_at items t.item t.path)) (kind_at (kinds_of items) t.item t.node)) o))
+        (λ q. option_and_then (λ k. option_and_then (λ tree. aligned_tokens vars tokens known (total t.env) q (role_at k t.path) tree)
+        (tree_at items t.item t.path)) (kind_at (nodes_of rule items) t.item t.node)) o))
     by_pattern None e = All-nil (λ (q : Aligned). IsUsed p q.pattern)
     by_pattern (Some q) e =
         let n = named patterns t.atom q e in
         let same : p ≡ q = one_pattern patterns distinct p q among n.among (atom ∙ sym n.number) in
         subst (λ (r : Pattern). Used (pairs_of ids (option_and_then (λ k. option_and_then
-        (λ tree. aligned_tokens vars tokens (total t.env) r (role_at k t.path) tree)
-        (tree_at items t.item t.path)) (kind_at (kinds_of items) t.item t.node)))) same
-        (by_kind (kind_at (kinds_of items) t.item t.node) refl)
+        (λ tree. aligned_tokens vars tokens known (total t.env) r (role_at k t.path) tree)
+        (tree_at items t.item t.path)) (kind_at (nodes_of rule items) t.item t.node)))) same
+        (by_kind (kind_at (nodes_of rule items) t.item t.node) refl)
 
     -- plus code at each pattern token that takes part shows only variables that the pattern uses
-    pub touch_used : Used (pairs_at patterns vars tokens items (kinds_of items) ids t)
+    pub touch_used : Used (pairs_at patterns vars tokens items (nodes_of rule items) ids t)
     touch_used = by_pattern (pattern_of patterns t.atom) refl

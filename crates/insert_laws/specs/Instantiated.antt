@@ -16,7 +16,7 @@ use Rattle.edit_marks.specs.Spots.{all_spots}
 use Rattle.edit_marks.specs.Edits.{block_of}
 use Rattle.edit_marks.specs.EditWalk.Touches.{Touched}
 use Rattle.edit_marks.specs.EditWalk.Named.{pairs_at}
-use Rattle.rule_chain.specs.RuleEdits.Kinds.{kinds_of}
+use Rattle.rule_chain.specs.RuleEdits.Nodes.{nodes_of}
 
 module _ (decls : List VarDecl) (env : Environment) where
   -- a metavariable has a value, and it is a term
@@ -42,4 +42,4 @@ module _ (decls : List VarDecl) (env : Environment) where
 abbrev pub IsInstantiated : Rule → List Item → List TextPiece → Touched → Type 0
 IsInstantiated rule items pieces t =
     All (λ s. IsInstantiatedBlock rule.vars t.env (block_of rule.tokens s)) (all_spots rule.tokens
-    (pairs_at (patterns_body (body rule.body)) rule.vars rule.tokens items (kinds_of items) (ids_of pieces) t))
+    (pairs_at (patterns_body (body rule.body)) rule.vars rule.tokens items (nodes_of rule items) (ids_of pieces) t))

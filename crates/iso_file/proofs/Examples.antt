@@ -5,6 +5,7 @@ use Rattle.c_terms.specs.declared.token.MetaKind.TheVariants as meta
 use Rattle.c_lexer.specs.declared.state.Kind.TheVariants as kind
 use Rattle.smpl_patch.specs.declared.pattern.VarKind.TheVariants.{Meta}
 use Rattle.smpl_patch.specs.declared.pattern.VarDecl.{VarDecl}
+use Rattle.smpl_patch.specs.Wants.{anything}
 use Rattle.smpl_lexer.specs.declared.token.PatchToken.{PatchToken}
 use Rattle.smpl_lexer.specs.Tokens.{made}
 use Rattle.iso_file.specs.Lines.{groups, filled}
@@ -88,7 +89,7 @@ expressions = refl
 -- ---- variables that are lost
 
 abbrev var : List ℕ → VarDecl
-var text = record { var = record { rule = 0; name = text }; kind = Meta meta.Expr; inherited = false; not_names = []; not_places = [] }
+var text = record { var = record { rule = 0; name = text }; kind = Meta meta.Expr; inherited = false; not_names = []; not_places = []; wanted = anything }
 
 -- the second variable is lost, at its first place
 lost : lost_between (var (codes "X") ∷ var (codes "Y") ∷ []) (name (codes "X") 0 ∷ [])

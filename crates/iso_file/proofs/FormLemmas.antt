@@ -19,6 +19,8 @@ use Rattle.iso_file.specs.Isos.{OrNoMemory, AreSides, AreVars, IsBehind, IsOfFor
 use Rattle.iso_file.specs.Isos.IsBlockFault.{other_word, of_no_form, lost}
 use Rattle.iso_file.specs.Stepped.{Decides, IsLost, IsCheckedBlock, ChecksBlock, IsUnder, Under, IsBlockOf, Behind, IsFormFault, is_begun}
 use Rattle.iso_file.specs.Stepped.IsFormFault.{of_no_form as no_form_fault, lost as lost_fault}
+use Rattle.smpl_meta.proofs.DeclsOnce.{OneTree}
+use Rattle.iso_file.proofs.VarLemmas.{vars_once}
 
 some_same : (o : Option ℕ) (n m : ℕ) → o ≡ Some n → o ≡ Some m → n ≡ m
 some_same o n m h k = let e : Some n ≡ Some m = sym h ∙ k in cc
@@ -58,20 +60,17 @@ behind_no_vars lines n decls second e none vars sides arrows trees b =
     let here : AreVars (concatenated (take n lines)) vars = subst (λ (k : ℕ). AreVars (concatenated (take k lines)) vars) same b.vars_are in
     none vars (subst (λ (ts : List PatchToken). AreVars ts vars) (sym e) here)
 
-vars_once : (tokens : List PatchToken) (one other : List VarDecl) → AreVars tokens one → AreVars tokens other → one ≡ other
-vars_once tokens one other h k = h.decls.vars_are ∙ sym k.decls.vars_are
-
-behind_of : (lines : List (List PatchToken)) (n : ℕ) (vars : List VarDecl) (o : Option Block) → second_at lines ≡ Some n
+behind_of : OneTree → (lines : List (List PatchToken)) (n : ℕ) (vars : List VarDecl) (o : Option Block) → second_at lines ≡ Some n
     → AreVars (concatenated (take n lines)) vars → Under vars (concatenated (drop (n + 1) lines)) o → Behind lines o
-behind_of lines n vars None second are under = λ other sides arrows trees b.
+behind_of law lines n vars None second are under = λ other sides arrows trees b.
     let same : b.second ≡ n = some_same (second_at lines) b.second n b.second_is second in
     let ones : AreVars (concatenated (take n lines)) other = subst (λ (k : ℕ). AreVars (concatenated (take k lines)) other) same b.vars_are in
-    let vs : other ≡ vars = vars_once (concatenated (take n lines)) other vars ones are in
+    let vs : other ≡ vars = vars_once law (concatenated (take n lines)) other vars ones are in
     let ways : arrows ≡ arrows_in (concatenated (drop (n + 1) lines)) = b.arrows_are ∙ ap (λ (k : ℕ). arrows_in (concatenated (drop (k + 1) lines))) same in
     let ss : sides ≡ sides_in (concatenated (drop (n + 1) lines)) = b.sides_are ∙ ap (λ (k : ℕ). sides_in (concatenated (drop (k + 1) lines))) same in
     under trees (subst (λ (x : List Bool). 0 < length x) ways b.some)
     (subst (λ (x : List (List PatchToken)). AreSides vars x trees) ss (subst (λ (x : List VarDecl). AreSides x sides trees) vs b.trees_are))
-behind_of lines n vars (Some b) second are under = record {
+behind_of law lines n vars (Some b) second are under = record {
   sides = sides_in (concatenated (drop (n + 1) lines));
   behind = record {
     second = n;
@@ -86,10 +85,11 @@ behind_of lines n vars (Some b) second are under = record {
       (subst (λ (x : List Bool). IsLost vars (sides_in (concatenated (drop (n + 1) lines))) x b.lost) (sym under.arrows_are) under.lost);
 }
 
-pub behind_under : (lines : List (List PatchToken)) (n : ℕ) (decls tokens : List PatchToken) (vars : List VarDecl) (o : Option Block) → second_at lines ≡ Some n
+pub behind_under : OneTree → (lines : List (List PatchToken)) (n : ℕ) (decls tokens : List PatchToken) (vars : List VarDecl) (o : Option Block)
+    → second_at lines ≡ Some n
     → decls ≡ concatenated (take n lines) → tokens ≡ concatenated (drop (n + 1) lines) → AreVars decls vars → Under vars tokens o → Behind lines o
-behind_under lines n decls tokens vars o second d t are under =
-    behind_of lines n vars o second (subst (λ (ts : List PatchToken). AreVars ts vars) d are) (subst (λ (ts : List PatchToken). Under vars ts o) t under)
+behind_under law lines n decls tokens vars o second d t are under =
+    behind_of law lines n vars o second (subst (λ (ts : List PatchToken). AreVars ts vars) d are) (subst (λ (ts : List PatchToken). Under vars ts o) t under)
 
 -- ---- a block
 

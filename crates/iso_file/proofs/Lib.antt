@@ -5,6 +5,7 @@ mod Trees
 mod HeldLemmas
 mod Keeping
 mod Chain
+mod VarLemmas
 mod FormLemmas
 mod BlockLemmas
 mod Examples

@@ -4,6 +4,7 @@ use Rattle.c_terms.specs.declared.token.MetaKind.TheVariants as meta
 use Rattle.smpl_patch.specs.declared.pattern.VarKind.{VarKind}
 use Rattle.smpl_patch.specs.declared.pattern.VarKind.TheVariants.{Meta}
 use Rattle.smpl_patch.specs.declared.pattern.VarDecl.{VarDecl}
+use Rattle.smpl_patch.specs.Wants.{is_anything}
 use Rattle.smpl_lexer.specs.declared.token.PatchToken.{PatchToken}
 use Rattle.smpl_lexer.specs.Tokens.{is_at, is_word, is_sign}
 use Rattle.iso_file.specs.Lines.{put}
@@ -43,9 +44,10 @@ is_kind (Meta meta.Constant) = true
 is_kind (Meta meta.Ident) = true
 is_kind _ = false
 
+-- each is of an allowed kind, and wants no special expressions
 abbrev pub have_kinds : List VarDecl → Bool
 have_kinds [] = true
-have_kinds (d ∷ ds) = if is_kind d.kind then have_kinds ds else false
+have_kinds (d ∷ ds) = if is_kind d.kind && is_anything d.wanted then have_kinds ds else false
 
 abbrev pub with_kinds : List VarDecl → Option (List VarDecl)
 with_kinds ds = if have_kinds ds then Some ds else None

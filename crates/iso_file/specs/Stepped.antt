@@ -10,6 +10,8 @@ use Rattle.c_terms.specs.declared.tree.Tree.{Tree}
 use Rattle.c_expr.specs.declared.fault.ParseFault.{ParseFault}
 use Rattle.c_expr.specs.declared.fault.ParseFault.TheVariants.{NoMemory}
 use Rattle.smpl_patch.specs.declared.pattern.VarDecl.{VarDecl}
+use Rattle.smpl_patch.specs.declared.fault.PatchFault.{PatchFault}
+use Rattle.smpl_patch.specs.declared.fault.PatchFault.TheVariants as patch
 use Rattle.iso_file.specs.declared.side.Parting.{Parting}
 use Rattle.iso_file.specs.declared.block.CheckedBlock.{CheckedBlock}
 use Rattle.iso_file.specs.declared.block.Block.{Block}
@@ -68,6 +70,11 @@ abbrev pub Tells : Result Tree ParseFault → Option Tree → Type 0
 Tells (Ok tree) found = found ≡ Some tree
 Tells (Err NoMemory) found = ⊥
 Tells (Err _) found = found ≡ None
+
+-- the fault is that memory ran out
+abbrev pub is_no_memory : PatchFault → Bool
+is_no_memory patch.NoMemory = true
+is_no_memory _ = false
 
 -- each list has an element
 abbrev pub AllFilled : {A : Type 0} → List (List A) → Type 0

@@ -11,6 +11,7 @@ use crate::lost::first_lost;
 use crate::side::{Parted, part};
 use crate::tree::trees_of;
 use crate::vars::vars_of;
+use c_expr::ranges_have_one_tree;
 use c_terms::{NoMemory, Tree};
 use smpl_lexer::{PatchToken, is_word};
 use smpl_meta::VarTable;
@@ -84,6 +85,7 @@ fn under(
 fn behind_header(alloc: Global, lines: &[Items<PatchToken>]) -> Result<Option<Block>, NoMemory>
     ensures { IfOk result (λ b. Behind lines.now b) }
 {
+    ranges_have_one_tree();
     match second_at(lines) {
         None => Ok(None),
         Some(n) => {

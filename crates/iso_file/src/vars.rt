@@ -1,9 +1,13 @@
 // The variables of a block.
-ghost use Rattle.std.specs.Prelude.{◌≡◌, true, IfOk};
+ghost use Rattle.std.specs.Prelude.{◌≡◌, [], true, IfOk};
+ghost use Rattle.smpl_lexer.specs.Texts.{OrNoMemory};
+ghost use Rattle.smpl_meta.specs.Decls.{IsDeclFault};
 ghost use Rattle.iso_file.specs.Sides as spec;
 ghost use Rattle.iso_file.specs.Isos.{AreVars};
+ghost use Rattle.iso_file.specs.Stepped as stepped;
 ghost use Rattle.iso_file.specs.Stepped.{Decides};
 
+use c_expr::ranges_have_one_tree;
 use c_terms::{MetaKind, NoMemory};
 use smpl_lexer::{PatchToken, is_sign, is_word};
 use smpl_meta::{Earlier, read_decls};
@@ -46,7 +50,7 @@ fn have_kinds(vars: &[VarDecl]) -> bool
     ensures { result ≡ spec.have_kinds vars.now }
 {
     for d in vars {
-        if !is_kind(d.kind) {
+        if !(is_kind(d.kind) && d.wanted.is_anything()) {
             return false;
         }
     }
@@ -63,17 +67,35 @@ fn with_kinds(vars: Items<VarDecl>) -> Option<Items<VarDecl>>
     }
 }
 
+fn is_no_memory(fault: &PatchFault) -> bool
+    ensures { result ≡ stepped.is_no_memory fault.now }
+{
+    matches!(fault, PatchFault::NoMemory)
+}
+
+/// Returns `None` for declarations with a fault, unless it is that memory ran out.
+fn no_vars(tokens: &[PatchToken], fault: PatchFault) -> Result<Option<Items<VarDecl>>, NoMemory>
+    requires { OrNoMemory (IsDeclFault [] tokens.now) fault }
+    ensures { IfOk result (λ vars. Decides (AreVars tokens.now) vars) }
+{
+    ranges_have_one_tree();
+    if is_no_memory(&fault) {
+        return Err(NoMemory);
+    }
+    Ok(None)
+}
+
 /// Returns the variables of declarations, or `None` if these aren't of the form.
 pub fn vars_of(alloc: Global, tokens: &[PatchToken]) -> Result<Option<Items<VarDecl>>, NoMemory>
     ensures { IfOk result (λ vars. Decides (AreVars tokens.now) vars) }
 {
+    ranges_have_one_tree();
     if !are_of_kinds(tokens) {
         return Ok(None);
     }
     let earlier = Earlier::of(alloc, &[])?;
     match read_decls(alloc, tokens, 0, &earlier) {
         Ok(vars) => Ok(with_kinds(vars)),
-        Err(PatchFault::NoMemory) => Err(NoMemory),
-        Err(_) => Ok(None),
+        Err(fault) => no_vars(tokens, fault),
     }
 }

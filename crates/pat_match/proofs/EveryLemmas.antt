@@ -9,6 +9,7 @@ use Rattle.c_terms.specs.declared.token.Token.{Token}
 use Rattle.c_terms.specs.declared.label.Label.{Label}
 use Rattle.c_terms.specs.declared.list.Member.{Member}
 use Rattle.c_terms.specs.declared.tree.Tree.{Tree, out-Tree}
+use Rattle.c_types.specs.Tables.{ItemTypes}
 use Rattle.smpl_terms.specs.declared.var.Var.{Var}
 use Rattle.smpl_terms.specs.Environments.{Environment}
 use Rattle.env_sets.specs.Sets.{Entries, set_denotes}
@@ -146,7 +147,7 @@ tail_none count n m t lt e = let a : nat_le m n ≡ false = grind (arith, nat_te
 pub tail_done : (n m : ℕ) (t r : Bool) → m ≤ 0 → r ≡ (nat_le m n && t) → r ≡ t
 tail_done n m t r le h = let a : nat_le m n ≡ true = grind (arith, nat_tests) in h ∙ ap (λ x. x && t) a
 
-module _ (decls : List VarDecl) (tokens : List PatToken) (label : Label) where
+module _ (decls : List VarDecl) (tokens : List PatToken) (types : ItemTypes) (label : Label) where
   no_places : (env : Environment) (id : ℕ) (xs : List Var) → has_none xs ≡ true → list_all (is_place decls env id) xs ≡ true
   no_places env id [] h = refl
   no_places env id (x ∷ xs) h = absurd (cc)
@@ -165,10 +166,10 @@ module _ (decls : List VarDecl) (tokens : List PatToken) (label : Label) where
   pub every_step : (before : Option Token) (f : Tree) (ms : List Member) (row : List RowEntry) (n : ℕ) (env : Environment)
       → is_wild label (leaf_of (out-Tree f)) ≡ true → is_bare_comma tokens before ≡ true
       → ((run : List Member) → run_fits decls tokens env label (leaf_of (out-Tree f)) run ≡ true) → n ≤ length ms
-      → tail_at (length ms) row n env ≡ step_at decls tokens label before f ms row n env
+      → tail_at (length ms) row n env ≡ step_at decls tokens types label before f ms row n env
   every_step before f ms row n env w bare every le =
-      any_agree _ (wild_entry decls tokens label before f ms n env) row (λ e.
+      any_agree _ (wild_entry decls tokens types label before f ms n env) row (λ e.
       let c = comma_every env before (take (e.taken - n) (drop n ms)) bare in
       let r = every (take (e.taken - n) (drop n ms)) in
       rw (c, r) refl)
-      ∙ wild_step decls tokens label before f ms row n env w le
+      ∙ wild_step decls tokens types label before f ms row n env w le

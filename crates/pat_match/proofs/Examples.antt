@@ -10,6 +10,7 @@ use Rattle.c_terms.specs.declared.shape.Shape.TheVariants as shape
 use Rattle.c_terms.specs.declared.list.Member.{Member}
 use Rattle.c_terms.specs.declared.tree.Tree.{Tree}
 use Rattle.c_terms.specs.declared.tree.Tree.TheOpen.{Tree-F}
+use Rattle.c_types.specs.Tables.{ItemTypes}
 use Rattle.smpl_terms.specs.declared.var.Var.{Var}
 use Rattle.smpl_terms.specs.declared.value.Value.TheVariants.{Place}
 use Rattle.smpl_patch.specs.declared.pattern.PatToken.{PatToken}
@@ -27,6 +28,7 @@ use Rattle.pat_match.specs.Fitting.{fits_by, pairs_by}
 use Rattle.c_terms.specs.declared.tree.Tree.TheVariants.{Leaf}
 use Rattle.c_terms.proofs.SameLemmas.{out-Leaf}
 use Rattle.smpl_patch.specs.declared.pattern.Pattern.{Pattern}
+use Rattle.smpl_patch.specs.Wants.{anything}
 use Rattle.pat_match.specs.declared.role.NodeRole.{NodeRole}
 use Rattle.pat_match.specs.Spots.{is_statement_node, token_whole, branch_whole, own_fit}
 use Rattle.pat_match.specs.Roles.{is_statement_variable, role_at, may_stand}
@@ -58,7 +60,7 @@ with_plus = record { mark = mark.Context; positions = []; before = Some (record 
 
 -- the position p, which must not be where q is
 abbrev p_not_q : VarDecl
-p_not_q = record { var = p; kind = var_kind.Position; inherited = false; not_names = []; not_places = q ∷ [] }
+p_not_q = record { var = p; kind = var_kind.Position; inherited = false; not_names = []; not_places = q ∷ []; wanted = anything }
 
 -- Kinds.
 
@@ -108,12 +110,12 @@ dots_in_params = refl
 
 module _ (env : Environment) where
   -- a metavariable without a declaration fits nothing
-  undeclared : (t : Tree) → token_fits [] env (kind.Meta meta.Expr) (token (kind.Meta meta.Expr) (codes "E") 0) t ≡ false
-  undeclared t = refl
+  undeclared : (types : ItemTypes) (t : Tree) → token_fits [] env types (kind.Meta meta.Expr) (token (kind.Meta meta.Expr) (codes "E") 0) t ≡ false
+  undeclared types t = refl
 
   -- Dots outside a list, and signs, fit nothing
-  dots_alone : (t : Tree) → token_fits [] env kind.Dots (token kind.Dots (codes "...") 0) t ≡ false
-  dots_alone t = refl
+  dots_alone : (types : ItemTypes) (t : Tree) → token_fits [] env types kind.Dots (token kind.Dots (codes "...") 0) t ≡ false
+  dots_alone types t = refl
 
   -- a token without an entry has no position and no plus code, so it may be aligned with nothing
   no_entry : stands_at [] env None None ≡ true
@@ -156,7 +158,7 @@ one b = record { token = None; fits = λ t. b; pairs = λ t. [] }
 abbrev member : Tree → Member
 member t = record { comma = Some (comma_token 9); tree = t }
 
-module _ (env : Environment) (a b : Tree) where
+module _ (types : ItemTypes) (env : Environment) (a b : Tree) where
   -- Dots may also take no member, with the comma after them aligned with nothing
   dots_take_none : runs_from [] [] env label.Args None (dots ∷ comma_piece 1 ∷ one true ∷ []) (record { comma = None; tree = a } ∷ []) ≡ true
   dots_take_none = refl
@@ -186,19 +188,19 @@ module _ (env : Environment) (a b : Tree) where
   comma_before_none = refl
 
   -- a disjunction fits if a branch fits, whatever the others do, and its first branch that fits is used
-  later_branch : fits_by [] [] env shape.Or label.PatOr (one false ∷ one true ∷ []) a ≡ true
+  later_branch : fits_by [] [] types env shape.Or label.PatOr (one false ∷ one true ∷ []) a ≡ true
   later_branch = refl
 
-  first_branch : (x y : Pair) → pairs_by [] [] env shape.Or label.PatOr
+  first_branch : (x y : Pair) → pairs_by [] [] types env shape.Or label.PatOr
       (record { token = None; fits = λ t. false; pairs = λ t. x ∷ [] }
       ∷ record { token = None; fits = λ t. true; pairs = λ t. y ∷ [] } ∷ one true ∷ []) a ≡ y ∷ []
   first_branch x y = refl
 
-  every_branch : fits_by [] [] env shape.And label.PatAnd (one false ∷ one true ∷ []) a ≡ false
+  every_branch : fits_by [] [] types env shape.And label.PatAnd (one false ∷ one true ∷ []) a ≡ false
   every_branch = refl
 
   -- a sign with a position is aligned with nothing, so nothing fits
-  sign_with_position : fits_by [] (at_p ∷ []) env shape.Or label.PatOr
+  sign_with_position : fits_by [] (at_p ∷ []) types env shape.Or label.PatOr
       (record { token = Some (token kind.Pat (codes "\\(") 0); fits = λ t. false; pairs = λ t. [] } ∷ one true ∷ []) a ≡ false
   sign_with_position = refl
 
@@ -210,17 +212,17 @@ module _ (env : Environment) (a b : Tree) where
   -- Spots.
 
   -- no branch at spot Whole fits at the tail of `do`, or at an exit
-  whole_at_tail : (form : Tree) → branch_whole [] [] env node.DoTail form a ≡ false
+  whole_at_tail : (form : Tree) → branch_whole [] [] types env node.DoTail form a ≡ false
   whole_at_tail form = refl
 
-  whole_at_exit : (form : Tree) → branch_whole [] [] env node.ExitNode form a ≡ false
+  whole_at_exit : (form : Tree) → branch_whole [] [] types env node.ExitNode form a ≡ false
   whole_at_exit form = refl
 
   -- a statement variable takes no closing brace and no function; `{` fits no simple statement
-  variable_at_close : (form : Tree) → token_whole [] [] env node.CloseBrace (token (kind.Meta meta.Stmt) (codes "S") 0) form a ≡ false
+  variable_at_close : (form : Tree) → token_whole [] [] types env node.CloseBrace (token (kind.Meta meta.Stmt) (codes "S") 0) form a ≡ false
   variable_at_close form = refl
 
-  brace_at_simple : (form : Tree) → token_whole [] [] env node.Simple (token kind.Punct (codes "{") 0) form a ≡ false
+  brace_at_simple : (form : Tree) → token_whole [] [] types env node.Simple (token kind.Punct (codes "{") 0) form a ≡ false
   brace_at_simple form = refl
 
   -- the body of a head is not compared, but the number of its children is
@@ -291,6 +293,6 @@ neither false b c h = refl
 neither true true c h = absurd (cc)
 
 -- so a statement variable fits no function's own block, whatever it holds
-no_body : (decls : List VarDecl) (tokens : List PatToken) (env : Environment) (pattern : Pattern) (t : Tree)
-    → fits_seat decls tokens env pattern own_block variable t ≡ false
-no_body decls tokens env pattern t = neither (is_live_in decls tokens pattern variable) _ _ variable_not_at_own
+no_body : (decls : List VarDecl) (tokens : List PatToken) (types : ItemTypes) (env : Environment) (pattern : Pattern) (t : Tree)
+    → fits_seat decls tokens types env pattern own_block variable t ≡ false
+no_body decls tokens types env pattern t = neither (is_live_in decls tokens pattern variable) _ _ variable_not_at_own

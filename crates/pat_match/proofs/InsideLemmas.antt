@@ -10,6 +10,7 @@ use Rattle.c_terms.specs.declared.tree.Tree.TheVariants.{Leaf, Branch}
 use Rattle.c_terms.specs.Places.{Place, below, part_at, parts, parts_from}
 use Rattle.c_terms.specs.Shapes.{is_expression_part}
 use Rattle.c_terms.proofs.PlaceLaws.{child_known, parts-Leaf, parts-Branch}
+use Rattle.c_types.specs.Tables.{ItemTypes}
 use Rattle.smpl_terms.specs.Environments.{Environment}
 use Rattle.smpl_patch.specs.declared.pattern.VarDecl.{VarDecl}
 use Rattle.smpl_patch.specs.declared.pattern.PatToken.{PatToken}
@@ -128,32 +129,32 @@ not_live false q ps h = any_no ps
 
 -- those that are aligned
 
-module _ (decls : List VarDecl) (tokens : List PatToken) (env : Environment) (p : Pattern) (k : NodeRole) where
+module _ (decls : List VarDecl) (tokens : List PatToken) (types : ItemTypes) (env : Environment) (p : Pattern) (k : NodeRole) where
   abbrev aligned : List ℕ → List Place → List Alignment
-  aligned = aligned_at decls tokens env p k
+  aligned = aligned_at decls tokens types env p k
 
   aligned-append : (above : List ℕ) (ps qs : List Place) → aligned above (ps ++ qs) ≡ aligned above ps ++ aligned above qs
   aligned-append above [] qs = refl
   aligned-append above (s ∷ ps) qs =
-      ap (λ xs. put_form (above ++ s.path) (form_at decls tokens env p k s.tree) ++ xs) (aligned-append above ps qs)
-      ∙ sym (append_assoc (put_form (above ++ s.path) (form_at decls tokens env p k s.tree)) (aligned above ps) (aligned above qs))
+      ap (λ xs. put_form (above ++ s.path) (form_at decls tokens types env p k s.tree) ++ xs) (aligned-append above ps qs)
+      ∙ sym (append_assoc (put_form (above ++ s.path) (form_at decls tokens types env p k s.tree)) (aligned above ps) (aligned above qs))
 
   aligned-below : (above : List ℕ) (i : ℕ) (ps : List Place) → aligned above (map (below i) ps) ≡ aligned (above ++ i ∷ []) ps
   aligned-below above i [] = refl
   aligned-below above i (s ∷ ps) =
-      ap₂ (λ path xs. put_form path (form_at decls tokens env p k s.tree) ++ xs) (sym (append_assoc above (i ∷ []) s.path)) (aligned-below above i ps)
+      ap₂ (λ path xs. put_form path (form_at decls tokens types env p k s.tree) ++ xs) (sym (append_assoc above (i ∷ []) s.path)) (aligned-below above i ps)
 
   append-nil : (xs : List Alignment) → xs ++ [] ≡ xs
   append-nil [] = refl
   append-nil (x ∷ xs) = ap (λ ys. x ∷ ys) (append-nil xs)
 
   aligned-part : (above : List ℕ) (l : Label) (i : ℕ) (c : Tree) (b : Bool) → is_expression_part l i c ≡ b
-      → aligned above (part_at is_expression_part l i c) ≡ (if b then put_form (above ++ i ∷ []) (form_at decls tokens env p k c) else [])
-  aligned-part above l i c true e = rw e (append-nil (put_form (above ++ i ∷ []) (form_at decls tokens env p k c)))
+      → aligned above (part_at is_expression_part l i c) ≡ (if b then put_form (above ++ i ∷ []) (form_at decls tokens types env p k c) else [])
+  aligned-part above l i c true e = rw e (append-nil (put_form (above ++ i ∷ []) (form_at decls tokens types env p k c)))
   aligned-part above l i c false e = rw e refl
 
   pub aligned-child : (above : List ℕ) (l : Label) (i : ℕ) (c : Tree) → aligned above (parts_of_child l i c)
-      ≡ (if is_expression_part l i c then put_form (above ++ i ∷ []) (form_at decls tokens env p k c) else [])
+      ≡ (if is_expression_part l i c then put_form (above ++ i ∷ []) (form_at decls tokens types env p k c) else [])
       ++ aligned (above ++ i ∷ []) (parts is_expression_part c)
   aligned-child above l i c =
       aligned-append above (part_at is_expression_part l i c) (map (below i) (parts is_expression_part c))
@@ -186,18 +187,18 @@ module _ (decls : List VarDecl) (tokens : List PatToken) (env : Environment) (p 
   -- a child that is aligned, if it is asked for, and then the parts inside it
   pub aligned_whole : (above now : List ℕ) (l : Label) (i : ℕ) (c : Tree) (old part : List Alignment) (asked : Bool)
       → asked ≡ is_expression_part l i c → now ≡ above ++ i ∷ []
-      → part ≡ old ++ (if asked then put_form now (form_at decls tokens env p k c) else [])
+      → part ≡ old ++ (if asked then put_form now (form_at decls tokens types env p k c) else [])
       → part ++ aligned now (parts is_expression_part c) ≡ old ++ aligned above (parts_of_child l i c)
   aligned_whole above now l i c old part asked e n g =
       ap (λ xs. xs ++ aligned now (parts is_expression_part c)) g
-      ∙ append_assoc old (if asked then put_form now (form_at decls tokens env p k c) else []) (aligned now (parts is_expression_part c))
+      ∙ append_assoc old (if asked then put_form now (form_at decls tokens types env p k c) else []) (aligned now (parts is_expression_part c))
       ∙ ap (λ xs. old ++ xs)
-      (ap₂ (λ b path. (if b then put_form path (form_at decls tokens env p k c) else []) ++ aligned path (parts is_expression_part c)) e n
+      (ap₂ (λ b path. (if b then put_form path (form_at decls tokens types env p k c) else []) ++ aligned path (parts is_expression_part c)) e n
       ∙ sym (aligned-child above l i c))
 
   pub aligned_done : (above now : List ℕ) (l : Label) (i : ℕ) (c : Tree) (inner : Label) (cs : List Tree) (j : ℕ)
       (old part all : List Alignment) (asked : Bool) → length cs ≤ j
-      → asked ≡ is_expression_part l i c → now ≡ above ++ i ∷ [] → part ≡ old ++ (if asked then put_form now (form_at decls tokens env p k c) else [])
+      → asked ≡ is_expression_part l i c → now ≡ above ++ i ∷ [] → part ≡ old ++ (if asked then put_form now (form_at decls tokens types env p k c) else [])
       → all ++ aligned now (kids_parts inner j (drop j cs)) ≡ part ++ aligned now (parts is_expression_part c)
       → all ≡ old ++ aligned above (parts_of_child l i c)
   aligned_done above now l i c inner cs j old part all asked le e n g h =
@@ -205,7 +206,7 @@ module _ (decls : List VarDecl) (tokens : List PatToken) (env : Environment) (p 
       sym (append-nil all) ∙ ap (λ xs. all ++ xs) (sym none) ∙ h ∙ aligned_whole above now l i c old part asked e n g
 
   pub aligned_leaf : (above now : List ℕ) (l : Label) (i : ℕ) (c : Tree) (a : Token) (old part : List Alignment) (asked : Bool) → c ≡ Leaf a
-      → asked ≡ is_expression_part l i c → now ≡ above ++ i ∷ [] → part ≡ old ++ (if asked then put_form now (form_at decls tokens env p k c) else [])
+      → asked ≡ is_expression_part l i c → now ≡ above ++ i ∷ [] → part ≡ old ++ (if asked then put_form now (form_at decls tokens types env p k c) else [])
       → part ≡ old ++ aligned above (parts_of_child l i c)
   aligned_leaf above now l i c a old part asked s e n g =
       let none : parts is_expression_part c ≡ [] = ap (parts is_expression_part) s ∙ parts-Leaf is_expression_part a in

@@ -8,6 +8,7 @@ use Rattle.c_terms.specs.declared.label.Label.{Label}
 use Rattle.c_terms.specs.declared.list.Member.{Member}
 use Rattle.c_terms.specs.declared.tree.Tree.{Tree, out-Tree}
 use Rattle.c_terms.specs.Lists.{comma, members, members_from}
+use Rattle.c_types.specs.Tables.{ItemTypes}
 use Rattle.smpl_terms.specs.Environments.{Environment}
 use Rattle.smpl_patch.specs.declared.pattern.VarDecl.{VarDecl}
 use Rattle.smpl_patch.specs.declared.pattern.PatToken.{PatToken}
@@ -58,39 +59,39 @@ left_false a b h = grind (arith, common_steps)
 right_false : (a b : Bool) → (a || b) ≡ false → b ≡ false
 right_false a b h = grind (arith, common_steps)
 
-module _ (decls : List VarDecl) (tokens : List PatToken) (label : Label) (env : Environment) where
+module _ (decls : List VarDecl) (tokens : List PatToken) (types : ItemTypes) (label : Label) (env : Environment) where
   abbrev wild_in : List Tree → Bool
   wild_in fs = list_any (λ f. is_wild label (leaf_of (out-Tree f))) fs
 
   abbrev from : Option Token → List Tree → List Member → Bool
-  from before fs ms = runs_from decls tokens env label before (map (piece decls tokens env) fs) ms
+  from before fs ms = runs_from decls tokens env label before (map (piece decls tokens types env) fs) ms
 
   -- this many members are too few or too many for the child, or leave too many for the children after it
   not_so_many : (before : Option Token) (f : Tree) (fs : List Tree) (ms : List Member)
       → is_wild label (leaf_of (out-Tree f)) ≡ false → suc (length fs) < length ms
       → ((b : Option Token) (ns : List Member) → length fs < length ns → from b fs ns ≡ false)
-      → (k : ℕ) → k < suc (length ms) → (takes decls tokens env label before (piece decls tokens env f) (take k ms) && from None fs (drop k ms)) ≡ false
+      → (k : ℕ) → k < suc (length ms) → (takes decls tokens env label before (piece decls tokens types env f) (take k ms) && from None fs (drop k ms)) ≡ false
   not_so_many before f fs ms w lt rest zero less =
-      let t = takes_single decls tokens label env before f (take 0 ms) w in
-      let s = single_none (fits_tree decls tokens env f) ms 0 less (λ n. omega (arith, n)) in
+      let t = takes_single decls tokens types label env before f (take 0 ms) w in
+      let s = single_none (fits_tree decls tokens types env f) ms 0 less (λ n. omega (arith, n)) in
       rw (t, s) (ap (λ x. x && from None fs (drop 0 ms)) (and_false (comma_fits decls tokens env before (take 0 ms))))
   not_so_many before f fs ms w lt rest (suc zero) less =
       let r = rest None (drop 1 ms) (omega (arith, length-drop 1 ms)) in
-      ap (λ b. takes decls tokens env label before (piece decls tokens env f) (take 1 ms) && b) r
-      ∙ and_false (takes decls tokens env label before (piece decls tokens env f) (take 1 ms))
+      ap (λ b. takes decls tokens env label before (piece decls tokens types env f) (take 1 ms) && b) r
+      ∙ and_false (takes decls tokens env label before (piece decls tokens types env f) (take 1 ms))
   not_so_many before f fs ms w lt rest (suc (suc k)) less =
-      let t = takes_single decls tokens label env before f (take (suc (suc k)) ms) w in
-      let s = single_none (fits_tree decls tokens env f) ms (suc (suc k)) less (λ n. omega (arith, n)) in
+      let t = takes_single decls tokens types label env before f (take (suc (suc k)) ms) w in
+      let s = single_none (fits_tree decls tokens types env f) ms (suc (suc k)) less (λ n. omega (arith, n)) in
       rw (t, s) (ap (λ x. x && from None fs (drop (suc (suc k)) ms)) (and_false (comma_fits decls tokens env before (take (suc (suc k)) ms))))
 
   one_room : (before : Option Token) (f : Tree) (fs : List Tree) (ms : List Member) → is_wild label (leaf_of (out-Tree f)) ≡ false → suc (length fs) < length ms
       → ((b : Option Token) (ns : List Member) → length fs < length ns → from b fs ns ≡ false) → (o : Option Token)
       → comma f ≡ o → from before (f ∷ fs) ms ≡ false
   one_room before f fs ms w lt rest (Some c) e =
-      at_comma decls tokens label env before f fs ms c e ∙ ap (λ b. comma_fits decls tokens env before [] && b) (rest (Some c) ms (omega arith))
+      at_comma decls tokens types label env before f fs ms c e ∙ ap (λ b. comma_fits decls tokens env before [] && b) (rest (Some c) ms (omega arith))
       ∙ and_false (comma_fits decls tokens env before [])
   one_room before f fs ms w lt rest None e =
-      at_member decls tokens label env before f fs ms e ∙ none_below _ (suc (length ms)) (not_so_many before f fs ms w lt rest)
+      at_member decls tokens types label env before f fs ms e ∙ none_below _ (suc (length ms)) (not_so_many before f fs ms w lt rest)
 
   no_room : (fs : List Tree) → wild_in fs ≡ false → (before : Option Token) (ms : List Member) → length fs < length ms → from before fs ms ≡ false
   no_room [] h before [] lt = absurd (omega arith)
@@ -98,5 +99,5 @@ module _ (decls : List VarDecl) (tokens : List PatToken) (label : Label) (env : 
   no_room (f ∷ fs) h before ms lt = one_room before f fs ms (left_false _ _ h) (omega arith) (no_room fs (right_false _ _ h)) (comma f) refl
 
   pub too_long : (fs ts : List Tree) → wild_in fs ≡ false → length fs < length (members ts)
-      → list_fits decls tokens env label (map (piece decls tokens env) fs) ts ≡ false
+      → list_fits decls tokens env label (map (piece decls tokens types env) fs) ts ≡ false
   too_long fs ts h lt = no_room fs h None (members ts) lt

@@ -20,6 +20,7 @@ use Rattle.c_terms.proofs.NumberLaws.{label_number-injective}
 use Rattle.c_terms.proofs.TreeLemmas.{leaves-Leaf, leaves-Branch}
 use Rattle.c_terms.proofs.SameLemmas.{out-Leaf, out-Branch}
 use Rattle.c_terms.proofs.Induct.{Each, tree_cases}
+use Rattle.c_types.specs.Tables.{ItemTypes}
 use Rattle.smpl_terms.specs.declared.var.Var.{Var}
 use Rattle.smpl_terms.specs.declared.value.Value.{Value}
 use Rattle.smpl_terms.specs.declared.value.Value.TheVariants as value
@@ -174,7 +175,7 @@ punct_meta : (decls : List VarDecl) (a : Token) (k : TokenKind) (x : Var) → is
 punct_meta decls a (kind.Meta k) x h = absurd (cc)
 punct_meta decls a _ x h = refl
 
-module _ (decls : List VarDecl) (tokens : List PatToken) (env : Environment) (x : Var) (l : Label) (Q : Type 0) where
+module _ (decls : List VarDecl) (tokens : List PatToken) (types : ItemTypes) (env : Environment) (x : Var) (l : Label) (Q : Type 0) where
   abbrev before_sure : Option Token → Bool
   before_sure None = false
   before_sure (Some a) = is_position_of (slice_get tokens a.id) x
@@ -189,13 +190,14 @@ module _ (decls : List VarDecl) (tokens : List PatToken) (env : Environment) (x 
 
   comma_law : (o : Option Token) (ms : List Member) (k : ℕ) → Given l (env x) Q ms → comma_fits decls tokens env o (take k ms) ≡ true → before_sure o ≡ true → Q
   comma_law None ms k g h s = absurd (cc)
-  comma_law (Some a) ms zero g h s = let p = position_at decls tokens env x (slice_get tokens a.id) None h s in let e = p.1 in absurd (cc)
-  comma_law (Some a) [] (suc k) g h s = let p = position_at decls tokens env x (slice_get tokens a.id) None h s in let e = p.1 in absurd (cc)
+  comma_law (Some a) ms zero g h s = let p = position_at decls tokens types env x (slice_get tokens a.id) None h s in let e = p.1 in absurd (cc)
+  comma_law (Some a) [] (suc k) g h s = let p = position_at decls tokens types env x (slice_get tokens a.id) None h s in let e = p.1 in absurd (cc)
   comma_law (Some a) (m ∷ ms) (suc k) g h s =
-      let p = position_at decls tokens env x (slice_get tokens a.id) (id_of m.comma) h s in
+      let p = position_at decls tokens types env x (slice_get tokens a.id) (id_of m.comma) h s in
       g.comma (or_left _ _ (ap (λ o. is_id o (env x)) p.1 ∙ p.2))
 
-  single_law : (c : Tree) (ms : List Member) → Law decls tokens env x c → single_fits (fits_tree decls tokens env c) ms ≡ true → is_sure decls tokens x c ≡ true
+  single_law : (c : Tree) (ms : List Member) → Law decls tokens types env x c → single_fits (fits_tree decls tokens types env c) ms ≡ true
+      → is_sure decls tokens x c ≡ true
       → list_any (tree_has (env x)) ms ≡ true
   single_law c [] w h s = absurd (cc)
   single_law c (m ∷ []) w h s = or_left _ _ (w m.tree h s)
@@ -214,7 +216,7 @@ module _ (decls : List VarDecl) (tokens : List PatToken) (env : Environment) (x 
   run_law a ms k g h s = ⊎_elim
       (λ m. g.runs 0 k (meta_run a.kind a (run l (take k ms)) (and_left _ _ h) m))
       (λ p.
-      let q = position_at decls tokens env x (slice_get tokens a.id) (first_id (run l (take k ms))) (and_right _ _ h) p in
+      let q = position_at decls tokens types env x (slice_get tokens a.id) (first_id (run l (take k ms))) (and_right _ _ h) p in
       ⊎_elim (λ f. g.member (any_take (tree_has (env x)) ms k f)) (λ f. g.comma (any_take (comma_is (env x)) ms k f))
       (run_first (take k ms) (env x) q.0 q.2 (ap first_of (sym (leaves-Branch l (run_kids (take k ms)))) ∙ q.1)))
       (or_cases (is_meta_of decls a a.kind x) (is_position_of (slice_get tokens a.id) x) s)
@@ -225,57 +227,60 @@ module _ (decls : List VarDecl) (tokens : List PatToken) (env : Environment) (x 
       (λ a h s. run_law a ms k g (sym (ap (λ y. run_fits decls tokens env l (leaf_of y) (take k ms)) (out-Leaf a)) ∙ h) (sym (sure-Leaf decls tokens x a) ∙ s))
       (λ j cs h s. let f = sym (ap (λ y. run_fits decls tokens env l (leaf_of y) (take k ms)) (out-Branch j cs)) ∙ h in absurd (cc))
 
-  member_law : (c : Tree) (ms : List Member) (k : ℕ) (w : Bool) → Law decls tokens env x c → Given l (env x) Q ms
-      → cond w (run_fits decls tokens env l (piece decls tokens env c).token (take k ms)) (single_fits (fits_tree decls tokens env c) (take k ms)) ≡ true
+  member_law : (c : Tree) (ms : List Member) (k : ℕ) (w : Bool) → Law decls tokens types env x c → Given l (env x) Q ms
+      → cond w (run_fits decls tokens env l (piece decls tokens types env c).token (take k ms)) (single_fits (fits_tree decls tokens types env c) (take k ms))
+      ≡ true
       → is_sure decls tokens x c ≡ true → Q
-  member_law c ms k true law g h s = wild_law ms k g c (sym (ap (λ o. run_fits decls tokens env l o (take k ms)) (piece-token decls tokens env c)) ∙ h) s
+  member_law c ms k true law g h s = wild_law ms k g c (sym (ap (λ o. run_fits decls tokens env l o (take k ms)) (piece-token decls tokens types env c)) ∙ h) s
   member_law c ms k false law g h s = g.member (any_take (tree_has (env x)) ms k (single_law c (take k ms) law h s))
 
   abbrev RunsLaw : List Tree → Type 0
   RunsLaw cs = (before : Option Token) (ms : List Member) → Given l (env x) Q ms
-      → runs_from decls tokens env l before (map (piece decls tokens env) cs) ms ≡ true
-      → (before_sure before || any_sure decls tokens env x cs) ≡ true → Q
+      → runs_from decls tokens env l before (map (piece decls tokens types env) cs) ms ≡ true
+      → (before_sure before || any_sure decls tokens types env x cs) ≡ true → Q
 
-  runs_step : (c : Tree) (cs : List Tree) → Law decls tokens env x c → RunsLaw cs → (before : Option Token) (ms : List Member) (o : Option Token) → comma c ≡ o
+  runs_step : (c : Tree) (cs : List Tree) → Law decls tokens types env x c → RunsLaw cs → (before : Option Token) (ms : List Member) (o : Option Token)
+      → comma c ≡ o
       → Given l (env x) Q ms
       → elim o as (λ o. Bool) [
-        | None ↦ some_below (λ k. takes decls tokens env l before (piece decls tokens env c) (take k ms)
-            && runs_from decls tokens env l None (map (piece decls tokens env) cs) (drop k ms)) (suc (length ms))
-        | Some d ↦ comma_fits decls tokens env before [] && runs_from decls tokens env l (Some d) (map (piece decls tokens env) cs) ms
+        | None ↦ some_below (λ k. takes decls tokens env l before (piece decls tokens types env c) (take k ms)
+            && runs_from decls tokens env l None (map (piece decls tokens types env) cs) (drop k ms)) (suc (length ms))
+        | Some d ↦ comma_fits decls tokens env before [] && runs_from decls tokens env l (Some d) (map (piece decls tokens types env) cs) ms
       ] ≡ true
-      → (before_sure before || (is_sure decls tokens x c || any_sure decls tokens env x cs)) ≡ true → Q
+      → (before_sure before || (is_sure decls tokens x c || any_sure decls tokens types env x cs)) ≡ true → Q
   runs_step c cs law ih before ms None e g h s =
       let r = below_elim _ (suc (length ms)) h in
       ⊎_elim (λ a. comma_law before ms r.0 g (and_left _ _ (and_left _ _ r.2)) a)
-      (λ b. ⊎_elim (λ a. member_law c ms r.0 (is_wild l (piece decls tokens env c).token) law g (and_right _ _ (and_left _ _ r.2)) a)
+      (λ b. ⊎_elim (λ a. member_law c ms r.0 (is_wild l (piece decls tokens types env c).token) law g (and_right _ _ (and_left _ _ r.2)) a)
       (λ a. ih None (drop r.0 ms) (given_drop l (env x) Q ms r.0 g) (and_right _ _ r.2) a)
-      (or_cases (is_sure decls tokens x c) (any_sure decls tokens env x cs) b))
-      (or_cases (before_sure before) (is_sure decls tokens x c || any_sure decls tokens env x cs) s)
+      (or_cases (is_sure decls tokens x c) (any_sure decls tokens types env x cs) b))
+      (or_cases (before_sure before) (is_sure decls tokens x c || any_sure decls tokens types env x cs) s)
   runs_step c cs law ih before ms (Some d) e g h s =
       ⊎_elim (λ a. comma_law before ms 0 g (and_left _ _ h) a)
       (λ b. ⊎_elim (λ a. ih (Some d) ms g (and_right _ _ h) (or_left _ _ (comma_own d c e a)))
-      (λ a. ih (Some d) ms g (and_right _ _ h) (or_right _ _ a)) (or_cases (is_sure decls tokens x c) (any_sure decls tokens env x cs) b))
-      (or_cases (before_sure before) (is_sure decls tokens x c || any_sure decls tokens env x cs) s)
+      (λ a. ih (Some d) ms g (and_right _ _ h) (or_right _ _ a)) (or_cases (is_sure decls tokens x c) (any_sure decls tokens types env x cs) b))
+      (or_cases (before_sure before) (is_sure decls tokens x c || any_sure decls tokens types env x cs) s)
 
-  runs_law : (cs : List Tree) → Each (Law decls tokens env x) cs → RunsLaw cs
+  runs_law : (cs : List Tree) → Each (Law decls tokens types env x) cs → RunsLaw cs
   runs_law [] e before [] g h s = comma_law before [] 0 g h (⊎_elim (λ a. a) (λ n. absurd (cc)) (or_cases (before_sure before) false s))
   runs_law [] e before (m ∷ ms) g h s = absurd (cc)
   runs_law (c ∷ cs) e before ms g h s =
-      runs_step c cs e.0 (runs_law cs e.1) before ms (comma c) refl g (sym (choice decls tokens l env before c cs ms (comma c) refl) ∙ h) s
+      runs_step c cs e.0 (runs_law cs e.1) before ms (comma c) refl g (sym (choice decls tokens types l env before c cs ms (comma c) refl) ∙ h) s
 
 label-equal : (l k : Label) → same_label l k ≡ true → l ≡ k
 label-equal l k h = label_number-injective l k (grind (arith, nat_tests))
 
-module _ (decls : List VarDecl) (tokens : List PatToken) (env : Environment) (x : Var) where
-  list_law : ListLaw decls tokens env x
-  list_law l e cs laws = tree_cases (Fit decls tokens env x (list_fits decls tokens env l) l cs)
-      (λ b h s. let f = sym (ap (kids_fit (list_fits decls tokens env l) l (map (piece decls tokens env) cs)) (out-Leaf b)) ∙ h in absurd (cc))
+module _ (decls : List VarDecl) (tokens : List PatToken) (types : ItemTypes) (env : Environment) (x : Var) where
+  list_law : ListLaw decls tokens types env x
+  list_law l e cs laws = tree_cases (Fit decls tokens types env x (list_fits decls tokens env l) l cs)
+      (λ b h s. let f = sym (ap (kids_fit (list_fits decls tokens env l) l (map (piece decls tokens types env) cs)) (out-Leaf b)) ∙ h in absurd (cc))
       (λ k us h s.
-      let f = sym (ap (kids_fit (list_fits decls tokens env l) l (map (piece decls tokens env) cs)) (out-Branch k us)) ∙ h in
+      let f = sym (ap (kids_fit (list_fits decls tokens env l) l (map (piece decls tokens types env) cs)) (out-Branch k us)) ∙ h in
       let n : has_value (Branch k us) (env x) ≡ has_value (Branch l us) (env x) =
       ap (λ j. has_value (Branch j us) (env x)) (sym (label-equal l k (and_left _ _ f))) in
-      n ∙ runs_law decls tokens env x l (has_value (Branch l us) (env x) ≡ true) cs laws None (members us) (given_members l us (env x) e) (and_right _ _ f) s)
+      n ∙ runs_law decls tokens types env x l (has_value (Branch l us) (env x) ≡ true) cs laws None (members us) (given_members l us (env x) e)
+      (and_right _ _ f) s)
 
   -- if the form fits the tree, each of its sure variables has a value of the tree
-  pub sure_has_value : (form t : Tree) → fits_tree decls tokens env form t ≡ true → is_sure decls tokens x form ≡ true → has_value t (env x) ≡ true
-  sure_has_value form = sure_law decls tokens env x list_law form
+  pub sure_has_value : (form t : Tree) → fits_tree decls tokens types env form t ≡ true → is_sure decls tokens x form ≡ true → has_value t (env x) ≡ true
+  sure_has_value form = sure_law decls tokens types env x list_law form

@@ -11,6 +11,7 @@ use Rattle.c_terms.specs.declared.tree.Tree.TheFolds.{fold-Tree}
 use Rattle.c_terms.specs.Trees.{leaves}
 use Rattle.c_terms.specs.Same.{same_label}
 use Rattle.c_terms.specs.Shapes.{shape_of}
+use Rattle.c_types.specs.Tables.{ItemTypes}
 use Rattle.smpl_patch.specs.declared.pattern.VarDecl.{VarDecl}
 use Rattle.smpl_patch.specs.declared.pattern.PatToken.{PatToken}
 use Rattle.smpl_patch.specs.Patterns.{is_sign}
@@ -61,7 +62,7 @@ abbrev pub kids_pairs : (List Piece → List Tree → List Pair) → List Piece 
 kids_pairs pairs ps (Tree-F.Leaf b) = []
 kids_pairs pairs ps (Tree-F.Branch k us) = pairs ps us
 
-module _ (decls : List VarDecl) (tokens : List PatToken) (env : Environment) where
+module _ (decls : List VarDecl) (tokens : List PatToken) (types : ItemTypes) (env : Environment) where
   abbrev pub fits_by : Shape → Label → List Piece → Tree → Bool
   fits_by shape.Or l ps t = list_all (λ p. is_bare_sign tokens p.token) ps && list_any (λ p. p.fits t) ps
   fits_by shape.And l ps t =
@@ -79,7 +80,7 @@ module _ (decls : List VarDecl) (tokens : List PatToken) (env : Environment) whe
   abbrev pub piece_step : Tree-F Piece → Piece
   piece_step (Tree-F.Leaf a) = record {
     token = Some a;
-    fits = leaf_fits decls tokens env a;
+    fits = leaf_fits decls tokens env types a;
     pairs = λ t. (a, leaves t) ∷ [];
   }
   piece_step (Tree-F.Branch l ps) = record {

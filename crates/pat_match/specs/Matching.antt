@@ -9,6 +9,7 @@ use Rattle.c_terms.specs.Trees.{leaves}
 use Rattle.c_terms.specs.Places.{Place}
 use Rattle.cfg_build.specs.declared.cfg_graph.label.NodeLabel.{NodeLabel}
 use Rattle.smpl_terms.specs.declared.var.Var.{Var}
+use Rattle.c_types.specs.Tables.{ItemTypes}
 use Rattle.smpl_patch.specs.declared.pattern.VarDecl.{VarDecl}
 use Rattle.smpl_patch.specs.declared.pattern.PatToken.{PatToken}
 use Rattle.smpl_patch.specs.declared.pattern.Spot.{Spot}
@@ -58,11 +59,11 @@ module _ (decls : List VarDecl) (tokens : List PatToken) where
   abbrev pub is_live_in : Pattern → Tree → Bool
   is_live_in p form = in_first (λ first. is_live p.spot first form) p.forms
 
-module _ (decls : List VarDecl) (tokens : List PatToken) (env : Environment) where
+module _ (decls : List VarDecl) (tokens : List PatToken) (types : ItemTypes) (env : Environment) where
   -- the form has the first form's sure variables, may be at a node of this role, and fits the subtree
   abbrev pub fits_seat : Pattern → NodeRole → Tree → Tree → Bool
   fits_seat p r form t =
-      (is_live_in decls tokens p form && may_stand r form) && fits_at decls tokens env p.spot r.kind form t
+      (is_live_in decls tokens p form && may_stand r form) && fits_at decls tokens types env p.spot r.kind form t
 
   -- The pattern matches at the node: some form fits some subtree.
   abbrev pub matches : Pattern → NodeLabel → Bool

@@ -11,6 +11,7 @@ use Rattle.c_terms.specs.Lists.{comma}
 use Rattle.smpl_terms.specs.declared.var.Var.{Var}
 use Rattle.smpl_terms.specs.Environments.{Environment}
 use Rattle.env_sets.specs.Sets.{Entries, set_denotes, set_vars}
+use Rattle.c_types.specs.Tables.{ItemTypes}
 use Rattle.smpl_patch.specs.declared.pattern.VarDecl.{VarDecl}
 use Rattle.smpl_patch.specs.declared.pattern.PatToken.{PatToken}
 use Rattle.pat_match.specs.declared.rows.RowEntry.{RowEntry}
@@ -66,11 +67,11 @@ row_vars test row = list_all (λ e. set_vars test e.set) row
 abbrev pub last_at : Bool → ℕ → ℕ → Bool
 last_at bare n m = bare && nat_eq n m
 
-module _ (decls : List VarDecl) (tokens : List PatToken) (label : Label) where
+module _ (decls : List VarDecl) (tokens : List PatToken) (types : ItemTypes) (label : Label) where
   -- the child takes some run after n members, and the row fits what follows
   abbrev pub step_at : Option Token → Tree → List Member → List RowEntry → ℕ → Environment → Bool
   step_at before form ms row n env = some_below
-      (λ k. takes decls tokens env label before (piece decls tokens env form) (take k (drop n ms)) && row_at row (n + k) env)
+      (λ k. takes decls tokens env label before (piece decls tokens types env form) (take k (drop n ms)) && row_at row (n + k) env)
       (suc (length (drop n ms)))
 
   -- what one entry of the row adds if the child takes any run
@@ -83,14 +84,14 @@ module _ (decls : List VarDecl) (tokens : List PatToken) (label : Label) where
   abbrev pub single_entry : Option Token → Tree → List Member → ℕ → Environment → RowEntry → Bool
   single_entry before form ms n env e = nat_eq e.taken (suc n) && (nat_le e.taken (length ms)
       && ((comma_fits decls tokens env before (take 1 (drop n ms))
-      && single_fits (fits_tree decls tokens env form) (take 1 (drop n ms))) && set_denotes e.set env))
+      && single_fits (fits_tree decls tokens types env form) (take 1 (drop n ms))) && set_denotes e.set env))
 
   abbrev pub IsStep : Option Token → Tree → List Member → List RowEntry → List RowEntry → Type 0
   IsStep before form ms row r = (n : ℕ) → n < suc (length ms) → (env : Environment) → row_at r n env ≡ step_at before form ms row n env
 
   -- these children fit what follows
   abbrev pub fits_from : Option Token → List Tree → List Member → Environment → Bool
-  fits_from before forms ms env = runs_from decls tokens env label before (map (piece decls tokens env) forms) ms
+  fits_from before forms ms env = runs_from decls tokens env label before (map (piece decls tokens types env) forms) ms
 
   abbrev pub IsRow : Option Token → List Tree → List Member → List RowEntry → Type 0
   IsRow before forms ms row = (n : ℕ) → n < suc (length ms) → (env : Environment) → row_at row n env ≡ fits_from before forms (drop n ms) env

@@ -14,6 +14,7 @@ use Rattle.c_terms.specs.Places.{Place, below, child, part_at, parts}
 use Rattle.cfg_build.specs.declared.cfg_graph.label.NodeKind.{NodeKind}
 use Rattle.cfg_build.specs.declared.cfg_graph.label.NodeKind.TheVariants as kind
 use Rattle.cfg_build.specs.CfgGraph.Own.{is_own}
+use Rattle.c_types.specs.Tables.{ItemTypes}
 use Rattle.smpl_patch.specs.declared.pattern.VarDecl.{VarDecl}
 use Rattle.smpl_patch.specs.declared.pattern.PatToken.{PatToken}
 use Rattle.smpl_patch.specs.declared.pattern.Spot.{Spot}
@@ -101,23 +102,23 @@ seats spot.Inside k t = own_parts k (out-Tree t)
 seats spot.Whole k t = record { path = []; tree = t } ∷ []
 seats spot.Tail k t = record { path = []; tree = t } ∷ []
 
-module _ (decls : List VarDecl) (tokens : List PatToken) (env : Environment) where
+module _ (decls : List VarDecl) (tokens : List PatToken) (types : ItemTypes) (env : Environment) where
   -- only the own tokens of a head or tail are compared; a disjunction fits neither
   abbrev pub own_fits : NodeKind → Tree-F Tree → Tree → Bool
   own_fits k (Tree-F.Leaf a) t = false
   own_fits k (Tree-F.Branch l fs) t = not (is_disjunction (shape_of l))
-      && kids_fit (own_fit (is_own k l (length fs)) 0) l (map (piece decls tokens env) fs) (out-Tree t)
+      && kids_fit (own_fit (is_own k l (length fs)) 0) l (map (piece decls tokens types env) fs) (out-Tree t)
 
   -- `{` and `}` fit the braces of nodes, statement variables fit what begins a statement, other tokens what has no body
   abbrev pub token_whole : NodeKind → Token → Tree → Tree → Bool
   token_whole k a form t =
-      if is_open_brace a then option_fits (fits_tree decls tokens env form) (open_brace k t)
-      else if is_close_brace a then option_fits (fits_tree decls tokens env form) (close_brace k t)
-      else if is_statement_token a.kind then is_statement_node k && fits_tree decls tokens env form t
-      else is_simple_node k && fits_tree decls tokens env form t
+      if is_open_brace a then option_fits (fits_tree decls tokens types env form) (open_brace k t)
+      else if is_close_brace a then option_fits (fits_tree decls tokens types env form) (close_brace k t)
+      else if is_statement_token a.kind then is_statement_node k && fits_tree decls tokens types env form t
+      else is_simple_node k && fits_tree decls tokens types env form t
 
   abbrev pub branch_whole : NodeKind → Tree → Tree → Bool
-  branch_whole kind.Simple form t = fits_tree decls tokens env form t
+  branch_whole kind.Simple form t = fits_tree decls tokens types env form t
   branch_whole kind.Head form t = own_fits kind.Head (out-Tree form) t
   branch_whole kind.FunHead form t = own_fits kind.FunHead (out-Tree form) t
   branch_whole _ form t = false
@@ -130,23 +131,23 @@ module _ (decls : List VarDecl) (tokens : List PatToken) (env : Environment) whe
   abbrev pub fits_at : Spot → NodeKind → Tree → Tree → Bool
   fits_at spot.Whole k form t = whole_at k (out-Tree form) form t
   fits_at spot.Tail k form t = is_tail_node k && own_fits kind.DoTail (out-Tree form) t
-  fits_at spot.Inside k form t = fits_tree decls tokens env form t
+  fits_at spot.Inside k form t = fits_tree decls tokens types env form t
 
   -- the same for what is aligned, if the form fits
 
   abbrev pub own_alignment : NodeKind → Tree-F Tree → Tree → List Pair
   own_alignment k (Tree-F.Leaf a) t = []
   own_alignment k (Tree-F.Branch l fs) t =
-      kids_pairs (own_pairs (is_own k l (length fs)) 0) (map (piece decls tokens env) fs) (out-Tree t)
+      kids_pairs (own_pairs (is_own k l (length fs)) 0) (map (piece decls tokens types env) fs) (out-Tree t)
 
   abbrev pub token_alignment : NodeKind → Token → Tree → Tree → List Pair
   token_alignment k a form t =
-      if is_open_brace a then option_pairs (alignment decls tokens env form) (open_brace k t)
-      else if is_close_brace a then option_pairs (alignment decls tokens env form) (close_brace k t)
-      else alignment decls tokens env form t
+      if is_open_brace a then option_pairs (alignment decls tokens types env form) (open_brace k t)
+      else if is_close_brace a then option_pairs (alignment decls tokens types env form) (close_brace k t)
+      else alignment decls tokens types env form t
 
   abbrev pub branch_alignment : NodeKind → Tree → Tree → List Pair
-  branch_alignment kind.Simple form t = alignment decls tokens env form t
+  branch_alignment kind.Simple form t = alignment decls tokens types env form t
   branch_alignment k form t = own_alignment k (out-Tree form) t
 
   abbrev pub whole_alignment : NodeKind → Tree-F Tree → Tree → Tree → List Pair
@@ -157,4 +158,4 @@ module _ (decls : List VarDecl) (tokens : List PatToken) (env : Environment) whe
   abbrev pub alignment_at : Spot → NodeKind → Tree → Tree → List Pair
   alignment_at spot.Whole k form t = whole_alignment k (out-Tree form) form t
   alignment_at spot.Tail k form t = own_alignment kind.DoTail (out-Tree form) t
-  alignment_at spot.Inside k form t = alignment decls tokens env form t
+  alignment_at spot.Inside k form t = alignment decls tokens types env form t

@@ -16,7 +16,9 @@ use Rattle.smpl_terms.specs.Values.{same}
 use Rattle.smpl_terms.specs.Vars.{same_var}
 use Rattle.smpl_patch.specs.Patterns.{declared_as}
 use Rattle.smpl_terms.specs.Environments.{Environment}
+use Rattle.c_types.specs.Tables.{ItemTypes}
 use Rattle.pat_match.specs.Kinds.{is_of_kind, is_named, plain_fits}
+use Rattle.pat_match.specs.Wants.{is_wanted}
 
 -- the positions that the position x must not be
 abbrev pub not_places : List VarDecl → Var → List Var
@@ -55,11 +57,11 @@ module _ (decls : List VarDecl) (env : Environment) where
   stands_at (Some p) None = is_bare (Some p)
   stands_at (Some p) (Some id) = list_all (is_place id) p.positions
 
-  -- a metavariable of this kind fits a tree that is of the kind, isn't excepted and is its value
-  abbrev pub meta_fits : MetaKind → Option VarDecl → Tree → Bool
-  meta_fits k None t = false
-  meta_fits k (Some d) t =
-      is_of_kind k (out-Tree t) && (not (is_named d.not_names (out-Tree t)) && same (Term t) (env d.var))
+  -- a metavariable of this kind fits a tree that is of the kind, isn't excepted, is wanted and is its value
+  abbrev pub meta_fits : ItemTypes → MetaKind → Option VarDecl → Tree → Bool
+  meta_fits types k None t = false
+  meta_fits types k (Some d) t =
+      is_of_kind k (out-Tree t) && (not (is_named d.not_names (out-Tree t)) && (is_wanted types d.wanted t && same (Term t) (env d.var)))
 
   abbrev pub value_is : Option VarDecl → Tree → Bool
   value_is None t = false
@@ -71,16 +73,16 @@ module _ (decls : List VarDecl) (env : Environment) where
   run_is _ a whole = true
 
   -- a metavariable fits as above, dots and signs fit no tree, any other token a leaf of its kind and text
-  abbrev pub token_fits : TokenKind → Token → Tree → Bool
-  token_fits (kind.Meta k) a t = meta_fits k (declared_as decls a.text) t
-  token_fits kind.Dots a t = false
-  token_fits kind.Pat a t = false
-  token_fits _ a t = plain_fits a (out-Tree t)
+  abbrev pub token_fits : ItemTypes → TokenKind → Token → Tree → Bool
+  token_fits types (kind.Meta k) a t = meta_fits types k (declared_as decls a.text) t
+  token_fits types kind.Dots a t = false
+  token_fits types kind.Pat a t = false
+  token_fits types _ a t = plain_fits a (out-Tree t)
 
 module _ (decls : List VarDecl) (tokens : List PatToken) (env : Environment) where
   -- the positions and plus code of a pattern token are at the first token that it is aligned with
   abbrev pub stands : Token → Option ℕ → Bool
   stands tok first = stands_at decls env (slice_get tokens tok.id) first
 
-  abbrev pub leaf_fits : Token → Tree → Bool
-  leaf_fits a t = token_fits decls env a.kind a t && stands a (first_id t)
+  abbrev pub leaf_fits : ItemTypes → Token → Tree → Bool
+  leaf_fits types a t = token_fits decls env types a.kind a t && stands a (first_id t)

@@ -44,7 +44,7 @@ pub fn fits_seat(
     requires within { form.now.number < length form.now.pattern.now.forms }
     requires form { form.now.tree.now ≡ slice_index_or form.now.pattern.now.forms form.now.number form.now.tree.now }
     ensures { IfOk result (λ r. r
-        ≡ spec.fits_seat context.now.decls.now context.now.tokens.now
+        ≡ spec.fits_seat context.now.decls.now context.now.tokens.now context.now.types.now
         (total env.now) form.now.pattern.now role form.now.tree.now tree.now) }
 {
     let set = fit_at(
@@ -63,7 +63,7 @@ pub fn fits_seat(
 fn form_at(alloc: Global, aligner: &Aligner<'_>, tree: &Tree) -> Result<Option<u32>, NoMemory>
     requires few { length aligner.now.p.now.forms < 2 ^ 32 }
     ensures { IfOk result (λ o. o
-        ≡ spec.form_at aligner.now.context.now.decls.now aligner.now.context.now.tokens.now
+        ≡ spec.form_at aligner.now.context.now.decls.now aligner.now.context.now.tokens.now aligner.now.context.now.types.now
         (total aligner.now.env.now) aligner.now.p.now aligner.now.role tree.now) }
 {
     let forms = aligner.p.forms.as_slice();
@@ -117,7 +117,8 @@ fn put_part(
     requires few { length aligner.now.p.now.forms < 2 ^ 32 }
     ensures { IfOk result (λ _. found.new.items ≡ found.old.items
         ++ (if asked then spec.put_form path.now (spec.form_at aligner.now.context.now.decls.now
-        aligner.now.context.now.tokens.now (total aligner.now.env.now) aligner.now.p.now aligner.now.role tree.now)
+        aligner.now.context.now.tokens.now aligner.now.context.now.types.now (total aligner.now.env.now) aligner.now.p.now
+        aligner.now.role tree.now)
         else [])) }
 {
     if !asked {
@@ -140,7 +141,8 @@ fn put_child(
 ) -> Result<(), NoMemory>
     requires few { length aligner.now.p.now.forms < 2 ^ 32 }
     ensures found { OnOk result (found.new.items ≡ found.old.items
-        ++ spec.aligned_at aligner.now.context.now.decls.now aligner.now.context.now.tokens.now (total aligner.now.env.now)
+        ++ spec.aligned_at aligner.now.context.now.decls.now aligner.now.context.now.tokens.now
+        aligner.now.context.now.types.now (total aligner.now.env.now)
         aligner.now.p.now aligner.now.role above.old.items (at.parts_of_child label i child.now)) }
     ensures above { OnOk result (above.new.items ≡ above.old.items) }
 {
@@ -175,7 +177,8 @@ fn put_own(
 ) -> Result<(), NoMemory>
     requires few { length aligner.now.p.now.forms < 2 ^ 32 }
     ensures found { OnOk result (found.new.items ≡ found.old.items
-        ++ spec.aligned_at aligner.now.context.now.decls.now aligner.now.context.now.tokens.now (total aligner.now.env.now)
+        ++ spec.aligned_at aligner.now.context.now.decls.now aligner.now.context.now.tokens.now
+        aligner.now.context.now.types.now (total aligner.now.env.now)
         aligner.now.p.now aligner.now.role above.old.items (if own then at.parts_of_child label i child.now else [])) }
     ensures above { OnOk result (above.new.items ≡ above.old.items) }
 {
@@ -195,7 +198,7 @@ fn align_own_parts(
 ) -> Result<Vec<Alignment>, NoMemory>
     requires few { length aligner.now.p.now.forms < 2 ^ 32 }
     ensures { IfOk result (λ r. r.items
-        ≡ spec.aligned_at aligner.now.context.now.decls.now aligner.now.context.now.tokens.now
+        ≡ spec.aligned_at aligner.now.context.now.decls.now aligner.now.context.now.tokens.now aligner.now.context.now.types.now
         (total aligner.now.env.now) aligner.now.p.now aligner.now.role path.now
         (at.own_parts_from (own.is_own aligner.now.role.kind label (length children.now)) label 0 children.now)) }
 {
@@ -225,7 +228,7 @@ fn align_inside(
 ) -> Result<Vec<Alignment>, NoMemory>
     requires few { length aligner.now.p.now.forms < 2 ^ 32 }
     ensures { IfOk result (λ r. r.items
-        ≡ spec.aligned_at aligner.now.context.now.decls.now aligner.now.context.now.tokens.now
+        ≡ spec.aligned_at aligner.now.context.now.decls.now aligner.now.context.now.tokens.now aligner.now.context.now.types.now
         (total aligner.now.env.now) aligner.now.p.now aligner.now.role path.now
         (at.own_parts aligner.now.role.kind (out-Tree tree.now))) }
 {
@@ -247,6 +250,7 @@ fn align_whole(
     requires few { length aligner.now.p.now.forms < 2 ^ 32 }
     ensures { IfOk result (λ r. r.items
         ≡ spec.put_form path.now (spec.form_at aligner.now.context.now.decls.now aligner.now.context.now.tokens.now
+        aligner.now.context.now.types.now
         (total aligner.now.env.now) aligner.now.p.now aligner.now.role tree.now)) }
 {
     let mut found = Vec::new(alloc);
@@ -269,7 +273,7 @@ pub fn align<'x>(
 ) -> Result<Vec<Alignment>, NoMemory>
     requires few { length p.now.forms < 2 ^ 32 }
     ensures exact { IfOk result (λ r. r.items
-        ≡ spec.aligns context.now.decls.now context.now.tokens.now (total env.now) p.now node.now) }
+        ≡ spec.aligns context.now.decls.now context.now.tokens.now context.now.types.now (total env.now) p.now node.now) }
 {
     let tree = node.tree.as_tree();
     let steps = node.path.steps(alloc)?;

@@ -1,12 +1,15 @@
 // What the patterns of a rule are read with, and one form of a pattern.
 use c_terms::Tree;
+use c_types::KnownTypes;
 use smpl_patch::{PatToken, Pattern, VarDecl};
 
-/// The declarations of a rule, and the tokens of its patterns. A token of a form has its entry at its id.
+/// The declarations of a rule, the tokens of its patterns, and the types that are known of the expressions of the item that
+/// they are matched against. A token of a form has its entry at its id.
 #[derive(Clone, Copy)]
 pub struct PatternContext<'p> {
     pub decls: &'p [VarDecl],
     pub tokens: &'p [PatToken],
+    pub types: &'p KnownTypes<'p>,
 }
 
 /// A form of a pattern: its number, and its tree, which is that of the pattern's form of this number.

@@ -33,7 +33,7 @@ pub fn fit(
     tree: &Tree,
 ) -> Result<EnvSet, NoMemory>
     ensures meaning { IfOk result (λ r. (env : Environment) → set_denotes r env
-        ≡ fits_tree context.now.decls.now context.now.tokens.now env form.now tree.now) }
+        ≡ fits_tree context.now.decls.now context.now.tokens.now context.now.types.now env form.now tree.now) }
     ensures vars { IfOk result (λ r. (t : Var → Bool) → form_vars context.now.decls.now context.now.tokens.now t form.now
         ≡ true → set_vars t r ≡ true) }
 {
@@ -52,8 +52,8 @@ fn fit_branch(
     tree: &Tree,
 ) -> Result<EnvSet, NoMemory>
     ensures meaning { IfOk result (λ r. (env : Environment) → set_denotes r env
-        ≡ fits_by context.now.decls.now context.now.tokens.now env (shape_of label) label
-        (map (piece context.now.decls.now context.now.tokens.now env) forms.now) tree.now) }
+        ≡ fits_by context.now.decls.now context.now.tokens.now context.now.types.now env (shape_of label) label
+        (map (piece context.now.decls.now context.now.tokens.now context.now.types.now env) forms.now) tree.now) }
     ensures vars { IfOk result (λ r. (t : Var → Bool)
         → list_all (form_vars context.now.decls.now context.now.tokens.now t) forms.now ≡ true →
         set_vars t r ≡ true) }
@@ -76,7 +76,8 @@ fn fit_some(
 ) -> Result<EnvSet, NoMemory>
     ensures meaning { IfOk result (λ r. (env : Environment) → set_denotes r env
         ≡ (list_all (λ f. is_bare_sign context.now.tokens.now (leaf_of (out-Tree f))) forms.now
-        && list_any (λ f. fits_tree context.now.decls.now context.now.tokens.now env f tree.now) forms.now)) }
+        && list_any (λ f. fits_tree context.now.decls.now context.now.tokens.now context.now.types.now env f tree.now)
+        forms.now)) }
     ensures vars { IfOk result (λ r. (t : Var → Bool)
         → list_all (form_vars context.now.decls.now context.now.tokens.now t) forms.now ≡ true →
         set_vars t r ≡ true) }
@@ -103,7 +104,7 @@ fn fit_every(
     ensures meaning { IfOk result (λ r. (env : Environment) → set_denotes r env
         ≡ (list_all (λ f. is_bare_sign context.now.tokens.now (leaf_of (out-Tree f))) forms.now
         && list_all (λ f. is_sign_token (leaf_of (out-Tree f))
-        || fits_tree context.now.decls.now context.now.tokens.now env f tree.now) forms.now)) }
+        || fits_tree context.now.decls.now context.now.tokens.now context.now.types.now env f tree.now) forms.now)) }
     ensures vars { IfOk result (λ r. (t : Var → Bool)
         → list_all (form_vars context.now.decls.now context.now.tokens.now t) forms.now ≡ true →
         set_vars t r ≡ true) }
@@ -134,7 +135,8 @@ fn fit_kids(
     tree: &Tree,
 ) -> Result<EnvSet, NoMemory>
     ensures meaning { IfOk result (λ r. (env : Environment) → set_denotes r env
-        ≡ kids_fit all_fit label (map (piece context.now.decls.now context.now.tokens.now env) forms.now) (out-Tree tree.now)) }
+        ≡ kids_fit all_fit label (map (piece context.now.decls.now context.now.tokens.now context.now.types.now env)
+        forms.now) (out-Tree tree.now)) }
     ensures vars { IfOk result (λ r. (t : Var → Bool)
         → list_all (form_vars context.now.decls.now context.now.tokens.now t) forms.now ≡ true →
         set_vars t r ≡ true) }
@@ -160,7 +162,7 @@ fn fit_all(
     trees: &[Tree],
 ) -> Result<EnvSet, NoMemory>
     ensures meaning { IfOk result (λ r. (env : Environment) → set_denotes r env
-        ≡ all_fit (map (piece context.now.decls.now context.now.tokens.now env) forms.now) trees.now) }
+        ≡ all_fit (map (piece context.now.decls.now context.now.tokens.now context.now.types.now env) forms.now) trees.now) }
     ensures vars { IfOk result (λ r. (t : Var → Bool)
         → list_all (form_vars context.now.decls.now context.now.tokens.now t) forms.now ≡ true →
         set_vars t r ≡ true) }
@@ -197,7 +199,7 @@ fn fit_member(
     requires child { form.now ≡ slice_index_or forms.now i form.now }
     ensures meaning { IfOk result (λ r. (env : Environment) → set_denotes r env
         ≡ (comma_fits context.now.decls.now context.now.tokens.now env (comma_before forms.now i) run.now
-        && single_fits (fits_tree context.now.decls.now context.now.tokens.now env form.now) run.now)) }
+        && single_fits (fits_tree context.now.decls.now context.now.tokens.now context.now.types.now env form.now) run.now)) }
     ensures vars { IfOk result (λ r. (t : Var → Bool)
         → list_all (form_vars context.now.decls.now context.now.tokens.now t) forms.now ≡ true →
         form_vars context.now.decls.now context.now.tokens.now t form.now ≡ true → set_vars t r ≡ true) }
@@ -231,7 +233,7 @@ fn put_single(
     requires within { i < length forms.now }
     requires child { form.now ≡ slice_index_or forms.now i form.now }
     ensures meaning { IfOk result (λ _. (n : ℕ) (env : Environment) → row_at out.new.items n env
-        ≡ (row_at out.old.items n env || single_entry context.now.decls.now context.now.tokens.now label
+        ≡ (row_at out.old.items n env || single_entry context.now.decls.now context.now.tokens.now context.now.types.now label
         (comma_before forms.now i) form.now members.now n env entry)) }
     ensures vars { IfOk result (λ _. (t : Var → Bool)
         → list_all (form_vars context.now.decls.now context.now.tokens.now t) forms.now ≡ true →
@@ -267,7 +269,7 @@ fn fit_single_row(
     requires within { i < length forms.now }
     requires child { form.now ≡ slice_index_or forms.now i form.now }
     requires single { is_wild label (leaf_of (out-Tree form.now)) ≡ false }
-    ensures meaning { IfOk result (λ r. IsStep context.now.decls.now context.now.tokens.now label
+    ensures meaning { IfOk result (λ r. IsStep context.now.decls.now context.now.tokens.now context.now.types.now label
         (comma_before forms.now i) form.now members.now row.items r.items) }
     ensures vars { IfOk result (λ r. (t : Var → Bool)
         → list_all (form_vars context.now.decls.now context.now.tokens.now t) forms.now ≡ true →
@@ -295,11 +297,11 @@ fn fit_child(
     row: Vec<RowEntry>,
 ) -> Result<Vec<RowEntry>, NoMemory>
     requires within { i < length forms.now }
-    requires row { IsRow context.now.decls.now context.now.tokens.now label
+    requires row { IsRow context.now.decls.now context.now.tokens.now context.now.types.now label
         (comma_before forms.now (suc i)) (drop
         (suc i) forms.now)
         members.now row.items }
-    ensures meaning { IfOk result (λ r. IsRow context.now.decls.now context.now.tokens.now label
+    ensures meaning { IfOk result (λ r. IsRow context.now.decls.now context.now.tokens.now context.now.types.now label
         (comma_before forms.now i) (drop i forms.now)
         members.now r.items) }
     ensures vars { IfOk result (λ r. (t : Var → Bool)
@@ -342,7 +344,7 @@ pub fn fit_rows(
     members: &[ListMember],
 ) -> Result<Vec<RowEntry>, NoMemory>
     requires within { start ≤ length forms.now }
-    ensures meaning { IfOk result (λ r. IsRow context.now.decls.now context.now.tokens.now label
+    ensures meaning { IfOk result (λ r. IsRow context.now.decls.now context.now.tokens.now context.now.types.now label
         (comma_before forms.now start)
         (drop start forms.now) members.now r.items) }
     ensures vars { IfOk result (λ r. (t : Var → Bool)
@@ -382,7 +384,7 @@ fn fit_rest(
     requires left { taken ≤ length members.now }
     requires wild { first_is_wild label (drop i forms.now) ≡ true }
     ensures meaning { IfOk result (λ r. (env : Environment) → set_denotes r env
-        ≡ fits_from context.now.decls.now context.now.tokens.now label (comma_before forms.now i)
+        ≡ fits_from context.now.decls.now context.now.tokens.now context.now.types.now label (comma_before forms.now i)
         (drop i forms.now)
         (drop taken members.now) env) }
     ensures vars { IfOk result (λ r. (t : Var → Bool)
@@ -416,9 +418,9 @@ fn fit_next(
     requires single { first_is_wild label (drop i forms.now) ≡ false }
     ensures left { IfOk result (λ r. r.taken ≤ length members.now) }
     ensures meaning { IfOk result (λ r. (env : Environment) →
-        fits_from context.now.decls.now context.now.tokens.now label (comma_before forms.now i)
+        fits_from context.now.decls.now context.now.tokens.now context.now.types.now label (comma_before forms.now i)
         (drop i forms.now) (drop taken members.now) env
-        ≡ (set_denotes r.set env && fits_from context.now.decls.now context.now.tokens.now label
+        ≡ (set_denotes r.set env && fits_from context.now.decls.now context.now.tokens.now context.now.types.now label
         (comma_before forms.now (suc i)) (drop (suc i) forms.now)
         (drop r.taken members.now) env)) }
     ensures vars { IfOk result (λ r. (t : Var → Bool)
@@ -456,7 +458,7 @@ fn fit_members(
     members: &[ListMember],
 ) -> Result<EnvSet, NoMemory>
     ensures meaning { IfOk result (λ r. (env : Environment) → set_denotes r env
-        ≡ fits_from context.now.decls.now context.now.tokens.now label None forms.now members.now env) }
+        ≡ fits_from context.now.decls.now context.now.tokens.now context.now.types.now label None forms.now members.now env) }
     ensures vars { IfOk result (λ r. (t : Var → Bool)
         → list_all (form_vars context.now.decls.now context.now.tokens.now t) forms.now ≡ true →
         set_vars t r ≡ true) }
@@ -494,7 +496,7 @@ fn fit_children(
 ) -> Result<EnvSet, NoMemory>
     ensures meaning { IfOk result (λ r. (env : Environment) → set_denotes r env
         ≡ list_fits context.now.decls.now context.now.tokens.now env label
-        (map (piece context.now.decls.now context.now.tokens.now env) forms.now) trees.now) }
+        (map (piece context.now.decls.now context.now.tokens.now context.now.types.now env) forms.now) trees.now) }
     ensures vars { IfOk result (λ r. (t : Var → Bool)
         → list_all (form_vars context.now.decls.now context.now.tokens.now t) forms.now ≡ true →
         set_vars t r ≡ true) }
@@ -517,7 +519,7 @@ fn fit_list(
 ) -> Result<EnvSet, NoMemory>
     ensures meaning { IfOk result (λ r. (env : Environment) → set_denotes r env
         ≡ kids_fit (list_fits context.now.decls.now context.now.tokens.now env label) label
-        (map (piece context.now.decls.now context.now.tokens.now env) forms.now) (out-Tree tree.now)) }
+        (map (piece context.now.decls.now context.now.tokens.now context.now.types.now env) forms.now) (out-Tree tree.now)) }
     ensures vars { IfOk result (λ r. (t : Var → Bool)
         → list_all (form_vars context.now.decls.now context.now.tokens.now t) forms.now ≡ true →
         set_vars t r ≡ true) }

@@ -29,7 +29,7 @@ fn put_part(
 ) -> Result<(), NoMemory>
     ensures meaning { IfOk result (λ _. (env : Environment) → set_denotes entries.new.items env
         ≡ (set_denotes entries.old.items env || (asked
-        && fits_tree context.now.decls.now context.now.tokens.now env form.now tree.now))) }
+        && fits_tree context.now.decls.now context.now.tokens.now context.now.types.now env form.now tree.now))) }
     ensures vars { IfOk result (λ _. (t : Var → Bool) → form_vars context.now.decls.now context.now.tokens.now t form.now
         ≡ true →
         set_vars t entries.old.items ≡ true → set_vars t entries.new.items ≡ true) }
@@ -54,7 +54,7 @@ fn put_child(
 ) -> Result<(), NoMemory>
     ensures meaning { IfOk result (λ _. (env : Environment) → set_denotes entries.new.items env
         ≡ (set_denotes entries.old.items env || list_any
-        (λ s. fits_tree context.now.decls.now context.now.tokens.now env form.now s.tree)
+        (λ s. fits_tree context.now.decls.now context.now.tokens.now context.now.types.now env form.now s.tree)
         (parts_of_child label i child.now))) }
     ensures vars { IfOk result (λ _. (t : Var → Bool) → form_vars context.now.decls.now context.now.tokens.now t form.now
         ≡ true →
@@ -83,7 +83,8 @@ fn put_own(
 ) -> Result<(), NoMemory>
     ensures meaning { IfOk result (λ _. (env : Environment) → set_denotes entries.new.items env
         ≡ (set_denotes entries.old.items env || (own && list_any
-        (λ s. fits_tree context.now.decls.now context.now.tokens.now env form.now s.tree) (parts_of_child label i child.now)))) }
+        (λ s. fits_tree context.now.decls.now context.now.tokens.now context.now.types.now env form.now s.tree)
+        (parts_of_child label i child.now)))) }
     ensures vars { IfOk result (λ _. (t : Var → Bool) → form_vars context.now.decls.now context.now.tokens.now t form.now
         ≡ true →
         set_vars t entries.old.items ≡ true → set_vars t entries.new.items ≡ true) }
@@ -104,7 +105,7 @@ fn fit_own_parts(
     children: &[Tree],
 ) -> Result<EnvSet, NoMemory>
     ensures meaning { IfOk result (λ r. (env : Environment) → set_denotes r env
-        ≡ list_any (λ s. fits_tree context.now.decls.now context.now.tokens.now env form.now s.tree)
+        ≡ list_any (λ s. fits_tree context.now.decls.now context.now.tokens.now context.now.types.now env form.now s.tree)
         (own_parts_from (own.is_own kind label (length children.now)) label 0 children.now)) }
     ensures vars { IfOk result (λ r. (t : Var → Bool) → form_vars context.now.decls.now context.now.tokens.now t form.now
         ≡ true →
@@ -137,7 +138,7 @@ pub fn fit_inside(
     tree: &Tree,
 ) -> Result<EnvSet, NoMemory>
     ensures meaning { IfOk result (λ r. (env : Environment) → set_denotes r env
-        ≡ list_any (λ s. fits_tree context.now.decls.now context.now.tokens.now env form.now s.tree)
+        ≡ list_any (λ s. fits_tree context.now.decls.now context.now.tokens.now context.now.types.now env form.now s.tree)
         (own_parts kind (out-Tree tree.now))) }
     ensures vars { IfOk result (λ r. (t : Var → Bool) → form_vars context.now.decls.now context.now.tokens.now t form.now
         ≡ true →

@@ -11,6 +11,7 @@ ghost use Rattle.smpl_patch.specs.declared.pattern.VarDecl.{VarDecl};
 ghost use Rattle.smpl_patch.specs.declared.pattern.PatToken.{PatToken};
 ghost use Rattle.smpl_patch.specs.declared.pattern.Spot.{Spot};
 ghost use Rattle.smpl_patch.specs.Patterns.{held_sure};
+ghost use Rattle.c_types.specs.Tables.{ItemTypes};
 ghost use Rattle.pat_match.specs.Runs.{Piece, runs_from, is_left, leftmost, runs_align};
 ghost use Rattle.pat_match.specs.Spots.{fits_at};
 ghost use Rattle.pat_match.specs.Valued.{has_value};
@@ -18,9 +19,9 @@ ghost use Rattle.pat_match.specs.Valued.{has_value};
 /// If a form fits a subtree, each sure variable of the compared part of the form has a value of the subtree: a subtree of it, a
 /// run of members of one of its lists, or the place of one of its tokens.
 pub fn sure_variables_have_values()
-    ensures { (decls : List VarDecl) (tokens : List PatToken) (env : Environment) (x : Var)
+    ensures { (decls : List VarDecl) (tokens : List PatToken) (types : ItemTypes) (env : Environment) (x : Var)
         (s : Spot)
-        (k : NodeKind) (form t : Tree) → fits_at decls tokens env s k form t ≡ true
+        (k : NodeKind) (form t : Tree) → fits_at decls tokens types env s k form t ≡ true
         → held_sure decls tokens s x form ≡ true → has_value t (env x) ≡ true }
 {}
 

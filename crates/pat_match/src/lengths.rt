@@ -3,6 +3,7 @@ ghost use Rattle.std.specs.Prelude.{◌≡◌, ◌<◌, List, true, false, map, 
 ghost use Rattle.std.specs.List.{list_any};
 ghost use Rattle.c_terms.specs.declared.tree.Tree.{out-Tree};
 ghost use Rattle.c_terms.specs.Lists.{members};
+ghost use Rattle.c_types.specs.Tables.{ItemTypes};
 ghost use Rattle.smpl_terms.specs.Environments.{Environment};
 ghost use Rattle.smpl_patch.specs.declared.pattern.VarDecl.{VarDecl};
 ghost use Rattle.smpl_patch.specs.declared.pattern.PatToken.{PatToken};
@@ -41,8 +42,8 @@ fn has_more_members(trees: &[Tree], count: usize) -> bool
 /// Whether the file's list has more members than the pattern's list has children, none of which takes more than one. Linear in
 /// the length of the pattern's list, apart from adjacent commas. Takes no memory.
 pub fn is_too_long(label: Label, forms: &[Tree], trees: &[Tree]) -> bool
-    ensures { result ≡ true → (decls : List VarDecl) (tokens : List PatToken) (env : Environment)
-        → runs.list_fits decls tokens env label (map (piece decls tokens env) forms.now) trees.now ≡ false }
+    ensures { result ≡ true → (decls : List VarDecl) (tokens : List PatToken) (types : ItemTypes)
+        (env : Environment) → runs.list_fits decls tokens env label (map (piece decls tokens types env) forms.now) trees.now ≡ false }
 {
     if has_wild(label, forms) {
         return false;

@@ -67,7 +67,8 @@ fn put_run(
 ) -> Result<(), NoMemory>
     requires within { child.now.i ≤ length child.now.forms.now }
     ensures meaning { IfOk result (λ _. (env : Environment) → set_denotes entries.new.items env
-        ≡ (set_denotes entries.old.items env || spec.wild_entry context.now.decls.now context.now.tokens.now child.now.label
+        ≡ (set_denotes entries.old.items env || spec.wild_entry context.now.decls.now context.now.tokens.now
+        context.now.types.now child.now.label
         (spec.comma_before child.now.forms.now child.now.i) child.now.form.now members.now from env entry.now)) }
     ensures vars { IfOk result (λ _. (t : Var → Bool)
         → list_all (form_vars context.now.decls.now context.now.tokens.now t) child.now.forms.now ≡ true →
@@ -100,7 +101,7 @@ pub fn fit_some_run(
     requires left { from ≤ length members.now }
     requires wild { is_wild child.now.label (leaf_of (out-Tree child.now.form.now)) ≡ true }
     ensures meaning { IfOk result (λ r. (env : Environment) → set_denotes r env
-        ≡ spec.step_at context.now.decls.now context.now.tokens.now child.now.label
+        ≡ spec.step_at context.now.decls.now context.now.tokens.now context.now.types.now child.now.label
         (spec.comma_before child.now.forms.now child.now.i) child.now.form.now members.now row.now from env) }
     ensures vars { IfOk result (λ r. (t : Var → Bool)
         → list_all (form_vars context.now.decls.now context.now.tokens.now t) child.now.forms.now ≡ true →
@@ -238,7 +239,8 @@ pub fn fit_wild_row(
 ) -> Result<Vec<RowEntry>, NoMemory>
     requires within { child.now.i ≤ length child.now.forms.now }
     requires wild { is_wild child.now.label (leaf_of (out-Tree child.now.form.now)) ≡ true }
-    ensures meaning { IfOk result (λ r. spec.IsStep context.now.decls.now context.now.tokens.now child.now.label
+    ensures meaning { IfOk result (λ r. spec.IsStep context.now.decls.now context.now.tokens.now context.now.types.now
+        child.now.label
         (spec.comma_before child.now.forms.now child.now.i) child.now.form.now members.now row.now r.items) }
     ensures vars { IfOk result (λ r. (t : Var → Bool)
         → list_all (form_vars context.now.decls.now context.now.tokens.now t) child.now.forms.now ≡ true →

@@ -2,6 +2,7 @@
 ghost use Rattle.std.specs.Prelude.{◌≡◌, List, true, false, map, length};
 ghost use Rattle.std.specs.List.{list_all};
 ghost use Rattle.c_terms.specs.declared.tree.Tree.{out-Tree};
+ghost use Rattle.c_types.specs.Tables.{ItemTypes};
 ghost use Rattle.smpl_terms.specs.Environments.{Environment};
 ghost use Rattle.smpl_patch.specs.declared.pattern.VarDecl.{VarDecl};
 ghost use Rattle.smpl_patch.specs.declared.pattern.PatToken.{PatToken};
@@ -40,8 +41,8 @@ pub fn has_bare_signs(tokens: &[PatToken], trees: &[Tree]) -> bool
 
 /// Whether the token is a token of C, and the tree is a different one.
 fn is_other_leaf(token: &Token, tree: &Tree) -> bool
-    ensures { result ≡ true → (decls : List VarDecl) (tokens : List PatToken) (env : Environment)
-        → leaf_fits decls tokens env token.now tree.now ≡ false }
+    ensures { result ≡ true → (decls : List VarDecl) (tokens : List PatToken) (types : ItemTypes)
+        (env : Environment) → leaf_fits decls tokens env types token.now tree.now ≡ false }
 {
     match token.kind {
         TokenKind::Meta(_) => false,
@@ -53,8 +54,8 @@ fn is_other_leaf(token: &Token, tree: &Tree) -> bool
 
 /// Whether the form is a token of C, and the tree is a different one. Takes no memory.
 fn is_other_token(form: &Tree, tree: &Tree) -> bool
-    ensures { result ≡ true → (decls : List VarDecl) (tokens : List PatToken) (env : Environment)
-        → fits_tree decls tokens env form.now tree.now ≡ false }
+    ensures { result ≡ true → (decls : List VarDecl) (tokens : List PatToken) (types : ItemTypes)
+        (env : Environment) → fits_tree decls tokens types env form.now tree.now ≡ false }
 {
     match form {
         Tree::Leaf(token) => is_other_leaf(token, tree),
@@ -65,8 +66,8 @@ fn is_other_token(form: &Tree, tree: &Tree) -> bool
 /// Whether some form is a token of C, and the tree at its place is a different one. Takes no memory.
 pub fn has_other_token(forms: &[Tree], trees: &[Tree]) -> bool
     requires even { length forms.now ≡ length trees.now }
-    ensures { result ≡ true → (decls : List VarDecl) (tokens : List PatToken) (env : Environment)
-        → all_fit (map (piece decls tokens env) forms.now) trees.now ≡ false }
+    ensures { result ≡ true → (decls : List VarDecl) (tokens : List PatToken) (types : ItemTypes)
+        (env : Environment) → all_fit (map (piece decls tokens types env) forms.now) trees.now ≡ false }
 {
     for i in 0..forms.len() {
         if is_other_token(&forms[i], &trees[i]) {

@@ -29,7 +29,8 @@ fn fit_seats(
     tree: &Tree,
 ) -> Result<EnvSet, NoMemory>
     ensures meaning { IfOk result (λ r. (env : Environment) → set_denotes r env
-        ≡ list_any (λ s. at.fits_at context.now.decls.now context.now.tokens.now env spot kind form.now s.tree)
+        ≡ list_any (λ s. at.fits_at context.now.decls.now context.now.tokens.now context.now.types.now env spot kind form.now
+        s.tree)
         (at.seats spot kind tree.now)) }
     ensures vars { IfOk result (λ r. (t : Var → Bool) → form_vars context.now.decls.now context.now.tokens.now t form.now
         ≡ true →
@@ -54,7 +55,8 @@ pub fn solve_form(
     requires within { form.now.number < length form.now.pattern.now.forms }
     requires form { form.now.tree.now ≡ slice_index_or form.now.pattern.now.forms form.now.number form.now.tree.now }
     ensures meaning { IfOk result (λ r. (env : Environment) → set_denotes r env ≡ list_any
-        (λ s. spec.fits_seat context.now.decls.now context.now.tokens.now env form.now.pattern.now role form.now.tree.now
+        (λ s. spec.fits_seat context.now.decls.now context.now.tokens.now context.now.types.now env form.now.pattern.now role
+        form.now.tree.now
         s.tree) (at.seats form.now.pattern.now.spot role.kind tree.now)) }
     ensures vars { IfOk result (λ r. (t : Var → Bool)
         → form_vars context.now.decls.now context.now.tokens.now t form.now.tree.now
@@ -93,7 +95,7 @@ pub fn solve(
     node: &NodeLabel,
 ) -> Result<EnvSet, NoMemory>
     ensures meaning { IfOk result (λ r. (env : Environment) → set_denotes r env
-        ≡ spec.matches context.now.decls.now context.now.tokens.now env p.now node.now) }
+        ≡ spec.matches context.now.decls.now context.now.tokens.now context.now.types.now env p.now node.now) }
     ensures vars { IfOk result (λ r. (t : Var → Bool) → pattern_vars context.now.decls.now context.now.tokens.now t p.now
         ≡ true →
         set_vars t r ≡ true) }

@@ -59,7 +59,7 @@ fn fit_open(
     tree: &Tree,
 ) -> Result<EnvSet, NoMemory>
     ensures meaning { IfOk result (λ r. (env : Environment) → set_denotes r env
-        ≡ spec.option_fits (fits_tree context.now.decls.now context.now.tokens.now env form.now)
+        ≡ spec.option_fits (fits_tree context.now.decls.now context.now.tokens.now context.now.types.now env form.now)
         (spec.open_brace kind tree.now)) }
     ensures vars { IfOk result (λ r. (t : Var → Bool) → form_vars context.now.decls.now context.now.tokens.now t form.now
         ≡ true →
@@ -79,7 +79,7 @@ fn fit_close(
     tree: &Tree,
 ) -> Result<EnvSet, NoMemory>
     ensures meaning { IfOk result (λ r. (env : Environment) → set_denotes r env
-        ≡ spec.option_fits (fits_tree context.now.decls.now context.now.tokens.now env form.now)
+        ≡ spec.option_fits (fits_tree context.now.decls.now context.now.tokens.now context.now.types.now env form.now)
         (spec.close_brace kind tree.now)) }
     ensures vars { IfOk result (λ r. (t : Var → Bool) → form_vars context.now.decls.now context.now.tokens.now t form.now
         ≡ true →
@@ -99,7 +99,7 @@ fn fit_where(
     tree: &Tree,
 ) -> Result<EnvSet, NoMemory>
     ensures meaning { IfOk result (λ r. (env : Environment) → set_denotes r env
-        ≡ (here && fits_tree context.now.decls.now context.now.tokens.now env form.now tree.now)) }
+        ≡ (here && fits_tree context.now.decls.now context.now.tokens.now context.now.types.now env form.now tree.now)) }
     ensures vars { IfOk result (λ r. (t : Var → Bool) → form_vars context.now.decls.now context.now.tokens.now t form.now
         ≡ true →
         set_vars t r ≡ true) }
@@ -120,7 +120,7 @@ fn fit_own_child(
     tree: &Tree,
 ) -> Result<EnvSet, NoMemory>
     ensures meaning { IfOk result (λ r. (env : Environment) → set_denotes r env
-        ≡ (not own || fits_tree context.now.decls.now context.now.tokens.now env form.now tree.now)) }
+        ≡ (not own || fits_tree context.now.decls.now context.now.tokens.now context.now.types.now env form.now tree.now)) }
     ensures vars { IfOk result (λ r. (t : Var → Bool) → form_vars context.now.decls.now context.now.tokens.now t form.now
         ≡ true →
         set_vars t r ≡ true) }
@@ -143,7 +143,7 @@ fn fit_own_all(
 ) -> Result<EnvSet, NoMemory>
     ensures meaning { IfOk result (λ r. (env : Environment) → set_denotes r env
         ≡ spec.own_fit (own.is_own kind label (length forms.now)) 0
-        (map (piece context.now.decls.now context.now.tokens.now env) forms.now) trees.now) }
+        (map (piece context.now.decls.now context.now.tokens.now context.now.types.now env) forms.now) trees.now) }
     ensures vars { IfOk result (λ r. (t : Var → Bool)
         → list_all (form_vars context.now.decls.now context.now.tokens.now t) forms.now ≡ true →
         set_vars t r ≡ true) }
@@ -173,7 +173,7 @@ fn fit_own_kids(
 ) -> Result<EnvSet, NoMemory>
     ensures meaning { IfOk result (λ r. (env : Environment) → set_denotes r env
         ≡ kids_fit (spec.own_fit (own.is_own kind label (length forms.now)) 0) label
-        (map (piece context.now.decls.now context.now.tokens.now env) forms.now) (out-Tree tree.now)) }
+        (map (piece context.now.decls.now context.now.tokens.now context.now.types.now env) forms.now) (out-Tree tree.now)) }
     ensures vars { IfOk result (λ r. (t : Var → Bool)
         → list_all (form_vars context.now.decls.now context.now.tokens.now t) forms.now ≡ true →
         set_vars t r ≡ true) }
@@ -207,7 +207,8 @@ fn fit_own(
     tree: &Tree,
 ) -> Result<EnvSet, NoMemory>
     ensures meaning { IfOk result (λ r. (env : Environment) → set_denotes r env
-        ≡ spec.own_fits context.now.decls.now context.now.tokens.now env kind (out-Tree form.now) tree.now) }
+        ≡ spec.own_fits context.now.decls.now context.now.tokens.now context.now.types.now env kind (out-Tree form.now)
+        tree.now) }
     ensures vars { IfOk result (λ r. (t : Var → Bool) → form_vars context.now.decls.now context.now.tokens.now t form.now
         ≡ true →
         set_vars t r ≡ true) }
@@ -232,7 +233,8 @@ fn fit_token_whole(
     tree: &Tree,
 ) -> Result<EnvSet, NoMemory>
     ensures meaning { IfOk result (λ r. (env : Environment) → set_denotes r env
-        ≡ spec.token_whole context.now.decls.now context.now.tokens.now env kind token.now form.now tree.now) }
+        ≡ spec.token_whole context.now.decls.now context.now.tokens.now context.now.types.now env kind token.now form.now
+        tree.now) }
     ensures vars { IfOk result (λ r. (t : Var → Bool) → form_vars context.now.decls.now context.now.tokens.now t form.now
         ≡ true →
         set_vars t r ≡ true) }
@@ -256,7 +258,7 @@ fn fit_branch_whole(
     tree: &Tree,
 ) -> Result<EnvSet, NoMemory>
     ensures meaning { IfOk result (λ r. (env : Environment) → set_denotes r env
-        ≡ spec.branch_whole context.now.decls.now context.now.tokens.now env kind form.now tree.now) }
+        ≡ spec.branch_whole context.now.decls.now context.now.tokens.now context.now.types.now env kind form.now tree.now) }
     ensures vars { IfOk result (λ r. (t : Var → Bool) → form_vars context.now.decls.now context.now.tokens.now t form.now
         ≡ true →
         set_vars t r ≡ true) }
@@ -277,7 +279,8 @@ fn fit_whole(
     tree: &Tree,
 ) -> Result<EnvSet, NoMemory>
     ensures meaning { IfOk result (λ r. (env : Environment) → set_denotes r env
-        ≡ spec.whole_at context.now.decls.now context.now.tokens.now env kind (out-Tree form.now) form.now tree.now) }
+        ≡ spec.whole_at context.now.decls.now context.now.tokens.now context.now.types.now env kind (out-Tree form.now)
+        form.now tree.now) }
     ensures vars { IfOk result (λ r. (t : Var → Bool) → form_vars context.now.decls.now context.now.tokens.now t form.now
         ≡ true →
         set_vars t r ≡ true) }
@@ -296,7 +299,8 @@ fn fit_tail(
     tree: &Tree,
 ) -> Result<EnvSet, NoMemory>
     ensures meaning { IfOk result (λ r. (env : Environment) → set_denotes r env
-        ≡ spec.fits_at context.now.decls.now context.now.tokens.now env spot.Tail kind form.now tree.now) }
+        ≡ spec.fits_at context.now.decls.now context.now.tokens.now context.now.types.now env spot.Tail kind form.now
+        tree.now) }
     ensures vars { IfOk result (λ r. (t : Var → Bool) → form_vars context.now.decls.now context.now.tokens.now t form.now
         ≡ true →
         set_vars t r ≡ true) }
@@ -318,7 +322,7 @@ pub fn fit_at(
     tree: &Tree,
 ) -> Result<EnvSet, NoMemory>
     ensures meaning { IfOk result (λ r. (env : Environment) → set_denotes r env
-        ≡ spec.fits_at context.now.decls.now context.now.tokens.now env spot kind form.now tree.now) }
+        ≡ spec.fits_at context.now.decls.now context.now.tokens.now context.now.types.now env spot kind form.now tree.now) }
     ensures vars { IfOk result (λ r. (t : Var → Bool) → form_vars context.now.decls.now context.now.tokens.now t form.now
         ≡ true →
         set_vars t r ≡ true) }

@@ -14,6 +14,7 @@ ghost use Rattle.pat_match.specs.Tokens as spec;
 use crate::context::PatternContext;
 use crate::kinds::{has_kind, is_excepted, is_same_leaf};
 use crate::sets::{all_or_none, is_none};
+use crate::wants::is_wanted;
 use c_terms::{MetaKind, NoMemory, Token, TokenKind, Tree, first_leaf};
 use env_sets::{Bound, EnvSet, Values, meet};
 use smpl_patch::{PatToken, PlusBlock, VarDecl, declared_as};
@@ -179,21 +180,25 @@ pub fn first_id(tree: &Tree) -> Option<u64>
 /// Returns the environments in which the metavariable fits the tree.
 fn fit_meta(
     alloc: Global,
-    decls: &[VarDecl],
+    context: &PatternContext<'_>,
     kind: MetaKind,
     name: &[u8],
     tree: &Tree,
 ) -> Result<EnvSet, NoMemory>
     ensures meaning { IfOk result (λ r. (env : Environment) → set_denotes r env
-        ≡ spec.meta_fits decls.now env kind (declared_as decls.now name.now) tree.now) }
+        ≡ spec.meta_fits context.now.decls.now env context.now.types.now kind (declared_as context.now.decls.now name.now)
+        tree.now) }
     ensures vars { IfOk result (λ r. (t : Var → Bool)
-        → var_passes t (declared_as decls.now name.now) ≡ true →
+        → var_passes t (declared_as context.now.decls.now name.now) ≡ true →
         set_vars t r ≡ true) }
 {
-    match declared_as(decls, name) {
+    match declared_as(context.decls, name) {
         None => Ok(EnvSet::none(alloc)),
         Some(decl) => {
-            if has_kind(kind, tree) && !is_excepted(decl, tree) {
+            if has_kind(kind, tree)
+                && !is_excepted(decl, tree)
+                && is_wanted(context.types, &decl.wanted, tree)
+            {
                 is_tree(alloc, &decl.var, tree)
             } else {
                 Ok(EnvSet::none(alloc))
@@ -205,18 +210,18 @@ fn fit_meta(
 /// Returns the environments in which the token fits the tree, apart from its positions and plus code.
 fn fit_token(
     alloc: Global,
-    decls: &[VarDecl],
+    context: &PatternContext<'_>,
     token: &Token,
     tree: &Tree,
 ) -> Result<EnvSet, NoMemory>
     ensures meaning { IfOk result (λ r. (env : Environment) → set_denotes r env
-        ≡ spec.token_fits decls.now env token.now.kind token.now tree.now) }
+        ≡ spec.token_fits context.now.decls.now env context.now.types.now token.now.kind token.now tree.now) }
     ensures vars { IfOk result (λ r. (t : Var → Bool)
-        → meta_passes decls.now t token.now.kind token.now ≡ true →
+        → meta_passes context.now.decls.now t token.now.kind token.now ≡ true →
         set_vars t r ≡ true) }
 {
     match token.kind {
-        TokenKind::Meta(kind) => fit_meta(alloc, decls, kind, token.text.as_bytes(), tree),
+        TokenKind::Meta(kind) => fit_meta(alloc, context, kind, token.text.as_bytes(), tree),
         TokenKind::Dots => Ok(EnvSet::none(alloc)),
         TokenKind::Pat => Ok(EnvSet::none(alloc)),
         _ => all_or_none(alloc, is_same_leaf(token, tree)),
@@ -231,12 +236,12 @@ pub fn fit_leaf(
     tree: &Tree,
 ) -> Result<EnvSet, NoMemory>
     ensures meaning { IfOk result (λ r. (env : Environment) → set_denotes r env
-        ≡ spec.leaf_fits context.now.decls.now context.now.tokens.now env token.now tree.now) }
+        ≡ spec.leaf_fits context.now.decls.now context.now.tokens.now env context.now.types.now token.now tree.now) }
     ensures vars { IfOk result (λ r. (t : Var → Bool)
         → token_vars context.now.decls.now context.now.tokens.now t token.now ≡ true →
         set_vars t r ≡ true) }
 {
-    let here = fit_token(alloc, context.decls, token, tree)?;
+    let here = fit_token(alloc, context, token, tree)?;
     if is_none(&here) {
         return Ok(here);
     }

@@ -26,8 +26,12 @@ impl Model for Decls {
     ghost use Rattle.std.specs.Prelude.{List, map};
     ghost use Rattle.smpl_patch.specs.declared.pattern.VarDecl.{VarDecl as Declaration};
     ghost use Rattle.pattern_vars.specs.Index.{Finds};
+    ghost use Rattle.std.specs.Coded.{codes};
+    ghost use Rattle.c_types.specs.contracts.ty.Ty as ty;
 
     ghost Value = { List Declaration };
+
+    ghost coded = { Prim.hlevel (codes, ty.the_row.coded) };
 
     ghost view = { λ d. d.decls };
 

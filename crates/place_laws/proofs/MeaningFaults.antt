@@ -15,7 +15,6 @@ use Rattle.smpl_meta.specs.declared.head.RuleHead.{RuleHead}
 use Rattle.smpl_meta.specs.declared.item.Item.{Item}
 use Rattle.smpl_meta.specs.declared.item.DeclKind.{DeclKind}
 use Rattle.smpl_meta.specs.declared.item.DeclKind.TheVariants as declares
-use Rattle.smpl_meta.specs.Forms.{parts}
 use Rattle.smpl_meta.specs.Known.{var_of}
 use Rattle.smpl_meta.specs.Decls.{items_of, inherited_from, var_by, vars_in, vars_of_items, vars_of}
 use Rattle.smpl_meta.specs.Heads.{AreHeads}
@@ -55,8 +54,8 @@ items_own earlier rule [] = tt
 items_own earlier rule (i ∷ is) =
     own_both rule (vars_in earlier rule i.kind i) (vars_of_items earlier rule is) (in_own earlier rule i.kind i) (items_own earlier rule is)
 
-vars_own : (earlier : List RuleHead) (rule : ℕ) (ts : List PatchToken) → AllOwn rule (vars_of earlier rule ts)
-vars_own earlier rule ts = items_own earlier rule (items_of (parts ts))
+vars_own : (earlier : List RuleHead) (rule : ℕ) (answers : List (Option (List Item))) → AllOwn rule (vars_of earlier rule answers)
+vars_own earlier rule answers = items_own earlier rule (items_of answers)
 
 -- ---- faults of variables
 
@@ -108,9 +107,10 @@ module _ (text : PatchText) (known : List Variable) (limit : ℕ) where
   rules_below earlier (r ∷ rs) (h ∷ hs) [] n f count within heads are e = absurd are
   rules_below earlier (r ∷ rs) (h ∷ hs) (rule ∷ rules) n f count within heads are e =
       let lt : n < limit = omega (arith, within) in
-      let vars : rule.vars ≡ vars_of earlier (length earlier) r.decls = are.0.vars ∙ heads.0.vars in
-      let numbered : vars_of earlier (length earlier) r.decls ≡ vars_of earlier n r.decls = ap (λ k. vars_of earlier k r.decls) (sym count) in
-      let all : AllOwn n rule.vars = subst (AllOwn n) (sym (vars ∙ numbered)) (vars_own earlier n r.decls) in
+      let answers = heads.0.answers in
+      let vars : rule.vars ≡ vars_of earlier (length earlier) answers = are.0.vars ∙ heads.0.vars in
+      let numbered : vars_of earlier (length earlier) answers ≡ vars_of earlier n answers = ap (λ k. vars_of earlier k answers) (sym count) in
+      let all : AllOwn n rule.vars = subst (AllOwn n) (sym (vars ∙ numbered)) (vars_own earlier n answers) in
       let more : length (earlier ++ h ∷ []) ≡ length earlier + 1 = length-append earlier (h ∷ []) in
       either limit n lt (fault_of_rule n rule) (fault_from (suc n) rules) f (λ first. of_rule_below limit n lt rule f all first)
       (λ later. rules_below (earlier ++ h ∷ []) rs hs rules (suc n) f (omega (arith, count, more)) (omega (arith, within)) heads.1 are.1 later) e

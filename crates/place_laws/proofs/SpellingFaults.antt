@@ -27,7 +27,7 @@ use Rattle.smpl_meta.specs.declared.item.Named.{Named}
 use Rattle.smpl_meta.specs.declared.item.DeclKind.{DeclKind}
 use Rattle.smpl_meta.specs.declared.patterns.Placed.{Placed}
 use Rattle.smpl_meta.specs.Patterns.{pattern_tokens}
-use Rattle.smpl_meta.specs.Forms.{is_keyword, parts, declared}
+use Rattle.smpl_meta.specs.Forms.{is_keyword, parts}
 use Rattle.smpl_meta.specs.Known.{var_of}
 use Rattle.smpl_meta.specs.Decls as decls
 use Rattle.smpl_meta.specs.Heads as heads
@@ -125,10 +125,11 @@ module _ (n : ℕ) where
   form_below [] None = tt
   form_below (t ∷ ts) None = (tt, tt)
 
-  forms_below : (ps : List (List PatchToken)) → AllBelow n (decls.form_faults ps)
-  forms_below [] = tt
-  forms_below (part ∷ more) =
-      both_below n (decls.form_fault part (declared part)) (decls.form_faults more) (form_below part (declared part)) (forms_below more)
+  forms_below : (ps : List (List PatchToken)) (answers : List (Option (List Item))) → AllBelow n (decls.form_faults ps answers)
+  forms_below [] answers = tt
+  forms_below (part ∷ more) [] = tt
+  forms_below (part ∷ more) (answer ∷ answers) =
+      both_below n (decls.form_fault part answer) (decls.form_faults more answers) (form_below part answer) (forms_below more answers)
 
   word_by : (b : Bool) (at : ℕ) → AllBelow n (cond b (BadMetavariable at ∷ []) [])
   word_by true at = (tt, tt)
@@ -181,20 +182,21 @@ module _ (n : ℕ) where
       both_below n (decls.item_faults earlier before i) (decls.items_faults earlier (before ++ i ∷ []) is)
       (item_below (decls.is_known before i) earlier i) (items_below earlier (before ++ i ∷ []) is)
 
-  decls_below : (earlier : List RuleHead) (ts : List PatchToken) → AllBelow n (decls.decl_faults earlier ts)
-  decls_below earlier ts =
-      both_below n (decls.form_faults (parts ts)) (decls.items_faults earlier [] (decls.items_of (parts ts)))
-      (forms_below (parts ts)) (items_below earlier [] (decls.items_of (parts ts)))
+  decls_below : (earlier : List RuleHead) (answers : List (Option (List Item))) (ts : List PatchToken)
+      → AllBelow n (decls.decl_faults earlier answers ts)
+  decls_below earlier answers ts =
+      both_below n (decls.form_faults (parts ts) answers) (decls.items_faults earlier [] (decls.items_of answers))
+      (forms_below (parts ts) answers) (items_below earlier [] (decls.items_of answers))
 
   pub head_below : (virtuals : List (List ℕ)) (earlier : List RuleHead) (r : RuleText) (f : PatchFault)
       → heads.IsHeadFault virtuals earlier r f → Below n f
   head_below virtuals earlier r f e =
-      first_below n (heads.head_faults virtuals earlier r) f
+      first_below n (heads.head_faults virtuals earlier e.answers r) f
       (both_below n (heads.name_fault virtuals earlier (heads.name_token r.header))
-      (heads.unknown_faults virtuals earlier (heads.depends_tokens r.header) ++ decls.decl_faults earlier r.decls)
+      (heads.unknown_faults virtuals earlier (heads.depends_tokens r.header) ++ decls.decl_faults earlier e.answers r.decls)
       (name_below virtuals earlier (heads.name_token r.header))
-      (both_below n (heads.unknown_faults virtuals earlier (heads.depends_tokens r.header)) (decls.decl_faults earlier r.decls)
-      (unknown_below virtuals earlier (heads.depends_tokens r.header)) (decls_below earlier r.decls))) e
+      (both_below n (heads.unknown_faults virtuals earlier (heads.depends_tokens r.header)) (decls.decl_faults earlier e.answers r.decls)
+      (unknown_below virtuals earlier (heads.depends_tokens r.header)) (decls_below earlier e.answers r.decls))) e.first
 
   -- ---- plus code
 

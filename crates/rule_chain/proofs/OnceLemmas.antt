@@ -9,7 +9,7 @@ use Rattle.c_lexer.specs.Pieces.{text_of}
 use Rattle.cpp_lines.specs.declared.reading.Item.{Item}
 use Rattle.cpp_lines.specs.Shown.{AreShown}
 use Rattle.c_file.specs.Reads.{Reads}
-use Rattle.cfg_build.specs.declared.cfg_graph.label.NodeKind.{NodeKind}
+use Rattle.edit_marks.specs.declared.edit_walk.nodes.ItemNodes.{ItemNodes}
 use Rattle.smpl_patch.specs.declared.rule.Rule.{Rule}
 use Rattle.smpl_patch.specs.declared.witness.RuleWitness.{RuleWitness}
 use Rattle.edit_marks.specs.declared.edit_conflict.edit.Edit.{Edit}
@@ -17,7 +17,7 @@ use Rattle.edit_marks.specs.declared.edit_conflict.clash.Clash.{Clash}
 use Rattle.edit_marks.specs.EditConflict.Clashes.{IsFirstClash, NotAfter}
 use Rattle.edit_marks.specs.EditWalk.Edited.{AreEdits}
 use Rattle.rule_chain.specs.declared.rule_edits.fault.EditFault.{EditFault}
-use Rattle.rule_chain.specs.RuleEdits.Kinds.{kinds_of}
+use Rattle.rule_chain.specs.RuleEdits.Nodes.{nodes_of}
 use Rattle.rule_chain.specs.RuleEdits.Pages.{is_edited}
 use Rattle.rule_chain.specs.RuleEdits.Faults.{AreFine, IsEditFault}
 use Rattle.rule_chain.specs.RuleEdits.Faults.IsEditFault.{conflict, too_long}
@@ -72,8 +72,8 @@ fine_or_fault next pieces edits _ fine (too_long none long) = let short = fine.s
 -- ---- one rule, if witnesses have one list of edits
 
 abbrev pub HaveOneList : Type 0
-HaveOneList = (found : List RuleWitness) (rule : Rule) (items : List Item) (kinds : List (List NodeKind)) (pieces : List TextPiece) (a b : List Edit)
-    → AreEdits found rule items kinds pieces a → AreEdits found rule items kinds pieces b → a ≡ b
+HaveOneList = (found : List RuleWitness) (rule : Rule) (items : List Item) (nodes : List ItemNodes) (pieces : List TextPiece) (a b : List Edit)
+    → AreEdits found rule items nodes pieces a → AreEdits found rule items nodes pieces b → a ≡ b
 
 abbrev pub HaveOneCut : Type 0
 HaveOneCut = (a b : List TextPiece) → Cuts a → Cuts b → text_of a ≡ text_of b → ids_of a ≡ ids_of b → a ≡ b
@@ -86,7 +86,7 @@ HaveOneShown = (pieces : List TextPiece) (a b : List ℕ) → AreShown pieces a 
 
 module _ (one_list : HaveOneList) (defined : List (List ℕ)) (number : ℕ) (rule : Rule) (s : Chained) where
   edits_once : (a b : List Edit) → RuleEdits defined number rule s a → RuleEdits defined number rule s b → a ≡ b
-  edits_once a b = one_list (file_witnesses defined number rule s) rule s.items (kinds_of s.items) s.pieces a b
+  edits_once a b = one_list (file_witnesses defined number rule s) rule s.items (nodes_of rule s.items) s.pieces a b
 
   few_or_many : AreFew defined number rule s → is_too_much defined number rule s ≡ true → ⊥
   few_or_many few many = let e : false ≡ true = sym few.witnesses ∙ many in absurd cc

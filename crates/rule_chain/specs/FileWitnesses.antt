@@ -1,5 +1,6 @@
 -- Definitions of file_witnesses.
 -- What the contract of `witnesses` depends on.
+pub mod Seen
 pub mod Found
 -- For internal use: items in which a rule finds nothing, since they lack a word.
 pub mod Lacking

@@ -1,5 +1,5 @@
 -- Definitions of rule_edits.
 -- What the contract of `edit` depends on, in reading order.
-pub mod Kinds
+pub mod Nodes
 pub mod Pages
 pub mod Faults

@@ -7,8 +7,8 @@
 #![tactic(auto)]
 
 mod fault;
-mod kinds;
 mod laws;
+mod nodes;
 mod texts;
 
 pub use fault::EditFault;

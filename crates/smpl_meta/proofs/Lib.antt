@@ -2,6 +2,9 @@ pub mod SplitLemmas
 pub mod FirstLemmas
 pub mod Walks
 pub mod PartLemmas
+pub mod TypedItems
+pub mod NamingLemmas
+pub mod TypedLemmas
 pub mod Shunts
 pub mod Takes
 pub mod HeadLemmas
@@ -16,6 +19,7 @@ pub mod Carrying
 pub mod Carried
 pub mod Standing
 pub mod Stopping
+pub mod DeclsOnce
 pub mod HeadsOnce
 pub mod FaultsOnce
 pub mod Placing

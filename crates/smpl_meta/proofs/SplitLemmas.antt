@@ -88,16 +88,16 @@ chunks_more w (t ∷ ts) e = more_by w t ts (is_sign (codes ",") t && not w) ref
 
 -- ---- all chunks, read one by one
 
-with_chunks : {A : Type 0} (read : List PatchToken → Option A) (x : A) (c : List PatchToken) (cs : List (List PatchToken))
+pub with_chunks : {A : Type 0} (read : List PatchToken → Option A) (x : A) (c : List PatchToken) (cs : List (List PatchToken))
     → read c ≡ Some x
     → all_of read (c ∷ cs) ≡ option_map (λ (more : List A). x ∷ more) (all_of read cs)
 with_chunks {A} read x c cs e = ap (option_and_then (λ (a : A). option_map (λ (more : List A). a ∷ more) (all_of read cs))) e
 
-no_chunks : {A : Type 0} (read : List PatchToken → Option A) (c : List PatchToken) (cs : List (List PatchToken))
+pub no_chunks : {A : Type 0} (read : List PatchToken → Option A) (c : List PatchToken) (cs : List (List PatchToken))
     → read c ≡ None → all_of read (c ∷ cs) ≡ None
 no_chunks {A} read c cs e = ap (option_and_then (λ (a : A). option_map (λ (more : List A). a ∷ more) (all_of read cs))) e
 
-le_cases : (m n : ℕ) → m ≤ n → (m < n) ⊎ (m ≡ n)
+pub le_cases : (m n : ℕ) → m ≤ n → (m < n) ⊎ (m ≡ n)
 le_cases m n le = elim (eqb_tells m n) [
   | inl same ↦ inr same.1
   | inr other ↦ inl (omega (arith, other.1))

@@ -13,18 +13,20 @@ use Rattle.smpl_meta.specs.declared.item.DeclKind.{DeclKind}
 use Rattle.smpl_meta.specs.declared.item.DeclKind.TheVariants.{Var, Symbol}
 use Rattle.smpl_meta.specs.declared.item.Named.{Named}
 use Rattle.smpl_meta.specs.declared.item.Item.{Item}
-use Rattle.smpl_meta.specs.Forms.{is_keyword, parts, declared}
+use Rattle.smpl_patch.specs.Faults.{first_of, first_from}
+use Rattle.smpl_meta.specs.declared.decls.Parsed.{Parsed}
+use Rattle.smpl_meta.specs.declared.decls.Declared.{Declared}
+use Rattle.smpl_meta.specs.Forms.{is_keyword, parts}
+use Rattle.smpl_meta.specs.Declarations.{AreDeclared, items_or_none}
 use Rattle.smpl_meta.specs.Known.{var_of, kind_number}
 
 -- ---- the items of all declarations
 
-abbrev pub items_or_none : Option (List Item) → List Item
-items_or_none None = []
-items_or_none (Some items) = items
+-- `answers` has for each declaration what it declares, or none for a malformed one
 
-abbrev pub items_of : List (List PatchToken) → List Item
+abbrev pub items_of : List (Option (List Item)) → List Item
 items_of [] = []
-items_of (part ∷ more) = items_or_none (declared part) ++ items_of more
+items_of (answer ∷ more) = items_or_none answer ++ items_of more
 
 -- a malformed declaration is a fault at its first token
 abbrev pub not_of_form : List PatchToken → List PatchFault
@@ -35,9 +37,10 @@ abbrev pub form_fault : List PatchToken → Option (List Item) → List PatchFau
 form_fault part (Some items) = []
 form_fault part None = not_of_form part
 
-abbrev pub form_faults : List (List PatchToken) → List PatchFault
-form_faults [] = []
-form_faults (part ∷ more) = form_fault part (declared part) ++ form_faults more
+abbrev pub form_faults : List (List PatchToken) → List (Option (List Item)) → List PatchFault
+form_faults [] answers = []
+form_faults (part ∷ parts) [] = []
+form_faults (part ∷ parts) (answer ∷ more) = form_fault part answer ++ form_faults parts more
 
 -- ---- what is wrong with an item
 
@@ -98,8 +101,12 @@ items_faults earlier before [] = []
 items_faults earlier before (i ∷ is) = item_faults earlier before i ++ items_faults earlier (before ++ i ∷ []) is
 
 -- all faults of declarations
-abbrev pub decl_faults : List RuleHead → List PatchToken → List PatchFault
-decl_faults earlier tokens = form_faults (parts tokens) ++ items_faults earlier [] (items_of (parts tokens))
+abbrev pub decl_faults : List RuleHead → List (Option (List Item)) → List PatchToken → List PatchFault
+decl_faults earlier answers tokens = form_faults (parts tokens) answers ++ items_faults earlier [] (items_of answers)
+
+-- what the declarations declare
+abbrev pub AreAnswers : List PatchToken → List (Option (List Item)) → Type 0
+AreAnswers tokens answers = AreDeclared [] (parts tokens) answers
 
 -- ---- variables
 
@@ -131,13 +138,14 @@ own earlier rule kind i = record {
   inherited = false;
   not_names = names_not kind i.nots;
   not_places = places_not earlier i.nots;
+  wanted = i.wanted;
 }
 
--- a variable of an earlier rule
+-- a variable of an earlier rule, which wants there what it wants here
 abbrev pub inherited_from : VarKind → Option VarDecl → List VarDecl
 inherited_from kind None = []
 inherited_from kind (Some d) =
-    record { var = d.var; kind = kind; inherited = true; not_names = []; not_places = [] } ∷ []
+    record { var = d.var; kind = kind; inherited = true; not_names = []; not_places = []; wanted = d.wanted } ∷ []
 
 abbrev pub var_by : List RuleHead → ℕ → VarKind → Option PatchToken → Item → List VarDecl
 var_by earlier rule kind None i = own earlier rule kind i ∷ []
@@ -152,11 +160,34 @@ vars_of_items earlier rule [] = []
 vars_of_items earlier rule (i ∷ is) = vars_in earlier rule i.kind i ++ vars_of_items earlier rule is
 
 -- the variables that declarations declare
-abbrev pub vars_of : List RuleHead → ℕ → List PatchToken → List VarDecl
-vars_of earlier rule tokens = vars_of_items earlier rule (items_of (parts tokens))
+abbrev pub vars_of : List RuleHead → ℕ → List (Option (List Item)) → List VarDecl
+vars_of earlier rule answers = vars_of_items earlier rule (items_of answers)
 
 -- The declarations have no fault, and these are their variables.
 pub record IsDecls (earlier : List RuleHead) (rule : ℕ) (tokens : List PatchToken) (vars : List VarDecl)
     : Type 0 where
-  pub faultless : decl_faults earlier tokens ≡ []
-  pub vars_are : vars ≡ vars_of earlier rule tokens
+  pub answers : List (Option (List Item))
+  pub read : AreAnswers tokens answers
+  pub faultless : decl_faults earlier answers tokens ≡ []
+  pub vars_are : vars ≡ vars_of earlier rule answers
+
+-- This is the first fault of the declarations.
+pub record IsDeclFault (earlier : List RuleHead) (tokens : List PatchToken) (fault : PatchFault) : Type 0 where
+  pub answers : List (Option (List Item))
+  pub read : AreAnswers tokens answers
+  pub first : first_of (decl_faults earlier answers tokens) ≡ Some fault
+
+-- These are the items of declarations, and their first fault of form after others.
+pub record AreParsed (first : Option PatchFault) (tokens : List PatchToken) (p : Parsed) : Type 0 where
+  pub answers : List (Option (List Item))
+  pub read : AreAnswers tokens answers
+  pub items_are : p.items ≡ items_of answers
+  pub first_is : p.first ≡ first_from first (form_faults (parts tokens) answers)
+
+-- These are the variables of declarations, and their first fault after others.
+pub record IsDeclaredBy (earlier : List RuleHead) (rule : ℕ) (first : Option PatchFault) (tokens : List PatchToken) (d : Declared)
+    : Type 0 where
+  pub answers : List (Option (List Item))
+  pub read : AreAnswers tokens answers
+  pub vars_are : d.vars ≡ vars_of earlier rule answers
+  pub first_is : d.first ≡ first_from first (decl_faults earlier answers tokens)

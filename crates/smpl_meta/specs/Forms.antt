@@ -1,10 +1,14 @@
--- The form of declarations: a kind, items separated by commas, and `;`.
-use Rattle.std.specs.Prelude.{ℕ, ◌||◌, ◌&&◌, not, Bool, true, false, if◌then◌else◌, List, [], ◌∷◌, drop, Option, Some, None, option_map, option_and_then, codes}
+-- The form of declarations that begin with the word for a kind: a kind, items separated by commas, and `;`.
+use Rattle.std.specs.Prelude.{ℕ, ◌+◌, eqb, ◌||◌, ◌&&◌, not, Bool, true, false, if◌then◌else◌, List, [], ◌∷◌, drop, Option, Some, None, option_map, option_and_then, codes}
+use Rattle.std.specs.Str.{bytes_eq}
 use Rattle.c_terms.specs.declared.token.TokenKind.{TokenKind}
 use Rattle.c_terms.specs.declared.token.TokenKind.TheVariants as token
 use Rattle.c_terms.specs.declared.token.MetaKind.TheVariants as meta
 use Rattle.smpl_patch.specs.declared.pattern.VarKind.{VarKind}
 use Rattle.smpl_patch.specs.declared.pattern.VarKind.TheVariants.{Meta, Position}
+use Rattle.smpl_patch.specs.declared.wanted.NameWanted.TheVariants as names
+use Rattle.smpl_patch.specs.declared.wanted.TypeWanted.TheVariants as types
+use Rattle.smpl_patch.specs.Wants.{anything}
 use Rattle.smpl_lexer.specs.declared.token.PatchToken.{PatchToken}
 use Rattle.smpl_lexer.specs.Tokens.{is_name, is_word, is_sign}
 use Rattle.smpl_meta.specs.declared.item.DeclKind.{DeclKind}
@@ -20,6 +24,10 @@ is_keyword_kind _ = false
 
 abbrev pub is_keyword : PatchToken → Bool
 is_keyword t = is_keyword_kind t.token.kind
+
+-- the keyword with this text
+abbrev pub is_keyword_of : List ℕ → PatchToken → Bool
+is_keyword_of text t = is_keyword t && bytes_eq t.token.text text
 
 -- a token in the form of a name, even if it is a keyword
 abbrev pub is_wordish : PatchToken → Bool
@@ -109,16 +117,40 @@ nots_of kind (t ∷ ts) = if is_sign (codes "{") t then braced kind ts else one_
 
 abbrev pub excepted_of : DeclKind → List PatchToken → Named → Option Item
 excepted_of Symbol ts x = None
-excepted_of (Var kind) ts x = option_map (λ nots. record { kind = Var kind; named = x; nots = nots }) (nots_of kind ts)
+excepted_of (Var kind) ts x =
+    option_map (λ nots. record { kind = Var kind; named = x; nots = nots; wanted = anything }) (nots_of kind ts)
 
 abbrev pub bare_item : DeclKind → Named → Item
-bare_item kind x = record { kind = kind; named = x; nots = [] }
+bare_item kind x = record { kind = kind; named = x; nots = []; wanted = anything }
 
-abbrev pub item_of : DeclKind → List PatchToken → Option Item
-item_of kind (x ∷ differs ∷ ts) =
+abbrev pub plain_item : DeclKind → List PatchToken → Option Item
+plain_item kind (x ∷ differs ∷ ts) =
     if is_sign (codes "!=") differs then option_and_then (excepted_of kind ts) (plain_of x)
     else option_map (bare_item kind) (named_of (x ∷ differs ∷ ts))
-item_of kind ts = option_map (bare_item kind) (named_of ts)
+plain_item kind ts = option_map (bare_item kind) (named_of ts)
+
+-- the number of `*` in front
+abbrev pub count_stars : List PatchToken → ℕ
+count_stars [] = 0
+count_stars (t ∷ ts) = if is_sign (codes "*") t then count_stars ts + 1 else 0
+
+abbrev pub pointer_to : ℕ → Named → Item
+pointer_to stars x = record { kind = Var (Meta meta.Expr); named = x; nots = []; wanted = record { name = names.Any; ty = types.Pointer stars } }
+
+-- `x` after that many `*`
+abbrev pub pointer_item : ℕ → List PatchToken → Option Item
+pointer_item stars (x ∷ []) = option_map (pointer_to stars) (plain_of x)
+pointer_item stars _ = None
+
+-- an item of an `expression` declaration
+abbrev pub expression_item : List PatchToken → Option Item
+expression_item ts =
+    let stars = count_stars ts in
+    if eqb stars 0 then plain_item (Var (Meta meta.Expr)) ts else pointer_item stars (drop stars ts)
+
+abbrev pub item_of : DeclKind → List PatchToken → Option Item
+item_of (Var (Meta meta.Expr)) ts = expression_item ts
+item_of kind ts = plain_item kind ts
 
 -- ---- declarations
 
@@ -151,11 +183,15 @@ abbrev pub items_by : Option DeclKind → List PatchToken → Option (List Item)
 items_by None ts = None
 items_by (Some kind) ts = items_in kind ts
 
--- the items of a declaration without its `;`
-abbrev pub front_items : List PatchToken → Option (List Item)
-front_items [] = None
-front_items (t ∷ ts) = if is_listed ts then items_by (list_kind_of t) (drop 1 ts) else items_by (kind_of t) ts
+abbrev pub is_some_kind : Option DeclKind → Bool
+is_some_kind None = false
+is_some_kind (Some kind) = true
 
--- the items of a declaration, which ends in `;`
-abbrev pub declared : List PatchToken → Option (List Item)
-declared part = option_and_then front_items (before_sign (codes ";") part)
+-- the word begins the declarations of a kind
+abbrev pub is_kind_word : PatchToken → Bool
+is_kind_word t = is_some_kind (kind_of t) || is_some_kind (list_kind_of t)
+
+-- the items of a declaration that begins with the word for a kind, without its `;`
+abbrev pub kind_items : List PatchToken → Option (List Item)
+kind_items [] = None
+kind_items (t ∷ ts) = if is_listed ts then items_by (list_kind_of t) (drop 1 ts) else items_by (kind_of t) ts

@@ -20,7 +20,8 @@ use Rattle.smpl_meta.specs.declared.head.RuleHead.{RuleHead}
 use Rattle.smpl_meta.specs.declared.depends.Mark.{Mark}
 use Rattle.smpl_meta.specs.declared.depends.Mark.TheVariants as mark
 use Rattle.smpl_meta.specs.Known.{number_from}
-use Rattle.smpl_meta.specs.Decls.{decl_faults, vars_of}
+use Rattle.smpl_meta.specs.declared.item.Item.{Item}
+use Rattle.smpl_meta.specs.Decls.{decl_faults, vars_of, AreAnswers}
 
 -- ---- names
 
@@ -158,24 +159,28 @@ mode_of r =
 -- ---- the head
 
 -- all faults of a rule's header and declarations
-abbrev pub head_faults : List (List ℕ) → List RuleHead → RuleText → List PatchFault
-head_faults virtuals earlier r =
+abbrev pub head_faults : List (List ℕ) → List RuleHead → List (Option (List Item)) → RuleText → List PatchFault
+head_faults virtuals earlier answers r =
     name_fault virtuals earlier (name_token r.header)
-    ++ (unknown_faults virtuals earlier (depends_tokens r.header) ++ decl_faults earlier r.decls)
+    ++ (unknown_faults virtuals earlier (depends_tokens r.header) ++ decl_faults earlier answers r.decls)
 
 -- They have no fault, and this is the head.
 pub record IsHead (virtuals : List (List ℕ)) (earlier : List RuleHead) (rule : ℕ) (r : RuleText) (h : RuleHead)
     : Type 0 where
-  pub faultless : head_faults virtuals earlier r ≡ []
+  pub answers : List (Option (List Item))
+  pub read : AreAnswers r.decls answers
+  pub faultless : head_faults virtuals earlier answers r ≡ []
   pub name : h.name ≡ name_text (name_token r.header)
   pub mode : h.mode ≡ mode_of r
-  pub vars : h.vars ≡ vars_of earlier rule r.decls
+  pub vars : h.vars ≡ vars_of earlier rule answers
   -- The condition that the header spells is the rule's.
   pub depends : (d : Dep) → DependsOn earlier (depends_tokens r.header) d → h.depends ≡ d
 
 -- their first fault
-abbrev pub IsHeadFault : List (List ℕ) → List RuleHead → RuleText → PatchFault → Type 0
-IsHeadFault virtuals earlier r f = first_of (head_faults virtuals earlier r) ≡ Some f
+pub record IsHeadFault (virtuals : List (List ℕ)) (earlier : List RuleHead) (r : RuleText) (f : PatchFault) : Type 0 where
+  pub answers : List (Option (List Item))
+  pub read : AreAnswers r.decls answers
+  pub first : first_of (head_faults virtuals earlier answers r) ≡ Some f
 
 -- the same for the rule with a given number
 abbrev pub IsHeadIn : PatchText → List RuleHead → ℕ → RuleHead → Type 0

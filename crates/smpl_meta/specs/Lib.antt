@@ -1,5 +1,8 @@
 -- What public contracts rest on, in reading order: what declarations declare, what earlier rules have, and a rule's head.
 pub mod Forms
+pub mod TypeNames
+pub mod Typed
+pub mod Declarations
 pub mod Known
 pub mod Decls
 pub mod Heads

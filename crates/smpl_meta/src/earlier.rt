@@ -27,10 +27,11 @@ impl Model for KnownHead {
     ghost use Rattle.smpl_meta.specs.Index.{names_of};
     ghost use Rattle.std.specs.Coded.{codes};
     ghost use Rattle.smpl_patch.specs.contracts.rule.Dep as dep;
+    ghost use Rattle.c_types.specs.contracts.ty.Ty as ty;
 
     ghost Value = { Head };
 
-    ghost coded = { Prim.hlevel (codes, dep.the_row.coded) };
+    ghost coded = { Prim.hlevel (codes, dep.the_row.coded, ty.the_row.coded) };
 
     ghost view = { λ known. known.head };
 
@@ -72,10 +73,11 @@ impl Model for Earlier {
     ghost use Rattle.smpl_meta.specs.Before.{Before, head_names};
     ghost use Rattle.std.specs.Coded.{codes};
     ghost use Rattle.smpl_patch.specs.contracts.rule.Dep as dep;
+    ghost use Rattle.c_types.specs.contracts.ty.Ty as ty;
 
     ghost Value = { Before };
 
-    ghost coded = { Prim.hlevel (codes, dep.the_row.coded) };
+    ghost coded = { Prim.hlevel (codes, dep.the_row.coded, ty.the_row.coded) };
 
     ghost view = { λ e. record { virtuals = e.virtuals; heads = e.heads } };
 

@@ -1,15 +1,14 @@
 // The form of declarations.
-ghost use Rattle.std.specs.Prelude.{◌≡◌, IfOk, option_map, option_and_then};
+ghost use Rattle.std.specs.Prelude.{◌≡◌, ◌≤◌, length, IfOk, option_map, option_and_then};
 ghost use Rattle.smpl_meta.specs.Forms as spec;
 
 use crate::item::{DeclKind, Item, Named};
 use crate::lists::{PartReader, parts_between};
 use crate::names::{is_wordish, named_of, plain_of};
 use crate::nots::nots_of;
-use crate::parts::before_sign;
 use c_terms::{MetaKind, NoMemory};
 use smpl_lexer::{PatchToken, is_sign, is_word};
-use smpl_patch::VarKind;
+use smpl_patch::{NameWanted, TypeWanted, VarKind, Wanted};
 use sqlite_items::Items;
 use std::alloc::Global;
 
@@ -26,7 +25,12 @@ fn excepted_of(
         DeclKind::Symbol => Ok(None),
         DeclKind::Var(var) => match nots_of(alloc, var, tokens)? {
             None => Ok(None),
-            Some(nots) => Ok(Some(Item { kind, named, nots })),
+            Some(nots) => Ok(Some(Item {
+                kind,
+                named,
+                nots,
+                wanted: Wanted::anything(),
+            })),
         },
     }
 }
@@ -57,12 +61,75 @@ fn bare(alloc: Global, kind: DeclKind, tokens: &[PatchToken]) -> Result<Option<I
             kind,
             named,
             nots: Items::new(alloc),
+            wanted: Wanted::anything(),
         })),
     }
 }
 
+/// The number of `*` in front.
+pub fn count_stars(tokens: &[PatchToken]) -> usize
+    ensures value { result ≡ spec.count_stars tokens.now }
+    ensures within { result ≤ length tokens.now }
+{
+    for i in 0..tokens.len() {
+        if !is_sign(&tokens[i], b"*") {
+            return i;
+        }
+    }
+    tokens.len()
+}
+
+/// Reads `x` after that many `*`. More than 2^32 - 1 of them are refused as if out of memory.
+fn pointer(alloc: Global, stars: usize, tokens: &[PatchToken]) -> Result<Option<Item>, NoMemory>
+    ensures { IfOk result (λ o. o ≡ spec.pointer_item stars tokens.now) }
+{
+    if stars > u32::MAX as usize {
+        return Err(NoMemory);
+    }
+    match tokens {
+        [x] => match plain_of(alloc, x)? {
+            None => Ok(None),
+            Some(named) => Ok(Some(Item {
+                kind: DeclKind::Var(VarKind::Meta(MetaKind::Expr)),
+                named,
+                nots: Items::new(alloc),
+                wanted: Wanted {
+                    name: NameWanted::Any,
+                    ty: TypeWanted::Pointer(stars as u32),
+                },
+            })),
+        },
+        _ => Ok(None),
+    }
+}
+
+/// Reads an item of an `expression` declaration.
+pub fn expression_item(alloc: Global, tokens: &[PatchToken]) -> Result<Option<Item>, NoMemory>
+    ensures { IfOk result (λ o. o ≡ spec.expression_item tokens.now) }
+{
+    let stars = count_stars(tokens);
+    if stars == 0 {
+        return plain_item(alloc, DeclKind::Var(VarKind::Meta(MetaKind::Expr)), tokens);
+    }
+    pointer(alloc, stars, &tokens[stars..])
+}
+
 fn item_of(alloc: Global, kind: DeclKind, tokens: &[PatchToken]) -> Result<Option<Item>, NoMemory>
     ensures { IfOk result (λ o. o ≡ spec.item_of kind tokens.now) }
+{
+    match kind {
+        DeclKind::Var(VarKind::Meta(MetaKind::Expr)) => expression_item(alloc, tokens),
+        _ => plain_item(alloc, kind, tokens),
+    }
+}
+
+/// Reads an item without a `*` in front.
+fn plain_item(
+    alloc: Global,
+    kind: DeclKind,
+    tokens: &[PatchToken],
+) -> Result<Option<Item>, NoMemory>
+    ensures { IfOk result (λ o. o ≡ spec.plain_item kind tokens.now) }
 {
     match tokens {
         [x, differs, rest @ ..] => {
@@ -162,9 +229,16 @@ fn items_by(
     }
 }
 
-/// Returns the items of a declaration that is given without its `;`.
-fn front_items(alloc: Global, tokens: &[PatchToken]) -> Result<Option<Items<Item>>, NoMemory>
-    ensures { IfOk result (λ o. o ≡ spec.front_items tokens.now) }
+/// Whether the token is a word that begins the declarations of a kind.
+pub fn is_kind_word(t: &PatchToken) -> bool
+    ensures { result ≡ spec.is_kind_word t.now }
+{
+    kind_of(t).is_some() || list_kind_of(t).is_some()
+}
+
+/// Returns the items of a declaration that is given without its `;` and begins with the word for a kind.
+pub fn kind_items(alloc: Global, tokens: &[PatchToken]) -> Result<Option<Items<Item>>, NoMemory>
+    ensures { IfOk result (λ o. o ≡ spec.kind_items tokens.now) }
 {
     match tokens {
         [] => Ok(None),
@@ -175,15 +249,5 @@ fn front_items(alloc: Global, tokens: &[PatchToken]) -> Result<Option<Items<Item
                 items_by(alloc, kind_of(t), rest)
             }
         }
-    }
-}
-
-/// Returns the items of a declaration, which ends in `;`, or `None` if it is malformed.
-pub fn declared(alloc: Global, part: &[PatchToken]) -> Result<Option<Items<Item>>, NoMemory>
-    ensures { IfOk result (λ o. o ≡ spec.declared part.now) }
-{
-    match before_sign(b";", part) {
-        None => Ok(None),
-        Some(front) => front_items(alloc, front),
     }
 }

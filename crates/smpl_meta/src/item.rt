@@ -1,6 +1,6 @@
 // What a declaration declares.
 use smpl_lexer::PatchToken;
-use smpl_patch::VarKind;
+use smpl_patch::{VarKind, Wanted};
 use sqlite_items::Items;
 
 /// The kind of a declaration.
@@ -18,10 +18,12 @@ pub struct Named {
     pub name: PatchToken,
 }
 
-/// `x`, `r.x`, or `x != {y, z}`.
+/// `x`, `r.x`, `x != {y, z}`, `*x`, or a declarator with a name.
 #[derive(Drop)]
 pub struct Item {
     pub kind: DeclKind,
     pub named: Named,
     pub nots: Items<Named>,
+    /// What an expression must be.
+    pub wanted: Wanted,
 }

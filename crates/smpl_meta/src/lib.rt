@@ -11,7 +11,8 @@
 //! `identifier f != {g, h};` is a rule named `s` that depends on `Not(Both(Defined(v), Ever(0)))`. It has the variable `x`
 //! of rule 0 and its own `f`, which may be neither `g` nor `h`.
 //!
-//! Nothing recurses. Names are found by look-ups in tables. What the lines of a body spell is left to the crates above.
+//! c_expr reads typed declarations, as `struct s *x;`, and c_typing says which type they give. Besides them nothing recurses.
+//! Names are found by look-ups in tables. What the lines of a body spell is left to the crates above.
 #![tactic(auto)]
 
 ghost use Rattle.std.specs.Prelude.{◌≡◌, ◌↔◌, ◌<◌, ◌^◌, ℕ, List, [], Some, None, length, IfOk, IfErr};
@@ -22,14 +23,14 @@ ghost use Rattle.smpl_patch.specs.declared.rule.Dep.{Dep};
 ghost use Rattle.smpl_lexer.specs.declared.token.PatchToken.{PatchToken as Word};
 ghost use Rattle.smpl_lexer.specs.Headers.{header_stop, most_counted};
 ghost use Rattle.smpl_meta.specs.declared.head.RuleHead.{RuleHead as Head};
-ghost use Rattle.smpl_patch.specs.Faults.{first_of};
 ghost use Rattle.smpl_lexer.specs.Texts.{AllGoOn, OrNoMemory};
-ghost use Rattle.smpl_meta.specs.Decls.{IsDecls, decl_faults};
+ghost use Rattle.smpl_meta.specs.Decls.{IsDecls, IsDeclFault};
 ghost use Rattle.smpl_meta.specs.Heads.{IsHead, IsHeadFault, IsHeadIn, IsHeadFaultIn, AreHeads, IsFirstHeadFault, DependsOn, depends_tokens};
 ghost use Rattle.smpl_meta.specs.Spelled.{IsHeader, StopsAt};
 ghost use Rattle.smpl_meta.specs.Shunting.{head_of};
 
 mod clause_words;
+mod declaration;
 mod decls;
 mod depends;
 mod earlier;
@@ -46,12 +47,15 @@ mod nots;
 mod parts;
 mod patterns;
 mod seen;
+mod type_names;
+mod typed;
 mod variables;
 mod vars;
 
 use crate::decls::{Declared, declare};
 use crate::depends::dep_of;
 use crate::header::{depends_tokens, mode_of, name_text, name_token, with_name, with_unknown};
+use c_expr::ranges_have_one_tree;
 use c_terms::NoMemory;
 pub use clause_words::{is_differs, is_host, is_word};
 pub use earlier::Earlier;
@@ -66,7 +70,10 @@ pub use variables::VarTable;
 
 /// Returns the variables that declarations declare, as variables of a rule, or the first fault of the declarations: the
 /// one at the least place, and at that place the one with the least number. Linear in the tokens and their bytes if no
-/// hashes of names collide.
+/// hashes of names collide; reading a typed declaration costs as much as the parsers of c_expr.
+///
+/// A declaration that doesn't begin with the word for a kind is typed: specifiers and declarators of C, each with a name, which
+/// is an `expression` variable that takes only expressions of that type.
 ///
 /// - `BadMetavariable`: at the first token of a malformed declaration, or at a keyword that is used as a name.
 /// - `TwiceNamed`: at a name that an earlier item of the declarations has, unless both are symbols.
@@ -80,8 +87,7 @@ pub fn read_decls(
     earlier: &Earlier,
 ) -> Result<Items<VarDecl>, PatchFault>
     ensures vars { IfOk result (λ vars. IsDecls earlier.now.heads rule decls.now vars) }
-    ensures fault { IfErr result (λ fault. OrNoMemory
-        (λ f. first_of (decl_faults earlier.now.heads decls.now) ≡ Some f) fault) }
+    ensures fault { IfErr result (λ fault. OrNoMemory (IsDeclFault earlier.now.heads decls.now) fault) }
 {
     let Declared { vars, first } = declare(alloc, decls, rule, earlier, None)?;
     match first {
@@ -205,4 +211,6 @@ pub fn heads_are_read_once()
         IsFirstHeadFault text one → IsFirstHeadFault text other → one ≡ other }
     ensures alone { (text : Whole) (heads : List Head) (fault : Fault) → AllGoOn text.rules →
         AreHeads text [] text.rules heads → IsFirstHeadFault text fault → ⊥ }
-{}
+{
+    ranges_have_one_tree();
+}

@@ -14,6 +14,13 @@ pub fn is_keyword(t: &PatchToken) -> bool
     matches!(t.token.kind, TokenKind::Keyword)
 }
 
+/// Whether the token is the keyword with this text.
+pub fn is_keyword_of(t: &PatchToken, text: &[u8]) -> bool
+    ensures { result ≡ spec.is_keyword_of text.now t.now }
+{
+    is_keyword(t) && t.token.text.as_bytes() == text
+}
+
 /// Whether the token has the form of a name, even if it is a keyword.
 pub fn is_wordish(t: &PatchToken) -> bool
     ensures { result ≡ spec.is_wordish t.now }

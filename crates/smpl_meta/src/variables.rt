@@ -44,8 +44,12 @@ impl<'a> Model for VarTable<'a> {
     ghost use Rattle.std.specs.Prelude.{List, ◌≡◌};
     ghost use Rattle.smpl_patch.specs.declared.pattern.VarDecl.{VarDecl as Variable};
     ghost use Rattle.smpl_meta.specs.Index.{names_of};
+    ghost use Rattle.std.specs.Coded.{codes};
+    ghost use Rattle.c_types.specs.contracts.ty.Ty as ty;
 
     ghost Value = { List Variable };
+
+    ghost coded = { Prim.hlevel (codes, ty.the_row.coded) };
 
     ghost view = { λ table. table.vars.now };
 

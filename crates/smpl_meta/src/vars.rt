@@ -88,12 +88,14 @@ fn own(
     let name = i.named.name.token.text.copy(alloc)?;
     let not_names = names_not(alloc, kind, i.nots.as_slice())?;
     let not_places = places_not(alloc, earlier, i.nots.as_slice())?;
+    let wanted = i.wanted.copy(alloc)?;
     Ok(VarDecl {
         var: Var { rule, name },
         kind,
         inherited: false,
         not_names,
         not_places,
+        wanted,
     })
 }
 
@@ -116,6 +118,7 @@ fn push_inherited(
                 inherited: true,
                 not_names: Items::new(alloc),
                 not_places: Items::new(alloc),
+                wanted: d.wanted.copy(alloc)?,
             })?;
             Ok(vars)
         }

@@ -3,6 +3,7 @@ use denote.Param.Send.{IsSend, IsSync, sendable}
 use Rattle.std.proofs.Crossing.{crosses}
 use Rattle.c_terms.proofs.token.Token.TheSendSync as Token
 use Rattle.c_terms.proofs.Crossing.{tree_send, tree_sync}
+use Rattle.c_types.proofs.Crossing.{ty_in_send, ty_in_sync}
 use Rattle.smpl_terms.proofs.Crossing.{var_send, var_sync, value_in_send, value_in_sync, env_send, env_sync}
 use Rattle.smpl_patch.specs.contracts.witness.Witness as Witness
 use Rattle.smpl_patch.specs.contracts.witness.RuleWitness as RuleWitness
@@ -41,10 +42,10 @@ pub pattern_in_sync : IsSync (Pattern.the_field).row
 pattern_in_sync = search (tree_sync, Spot.the_field_sync, crosses, sendable) depth 60
 
 pub decl_send : IsSend VarDecl.the_row
-decl_send = search (var_send, crosses, sendable) depth 60
+decl_send = search (var_send, ty_in_send, crosses, sendable) depth 60
 
 pub decl_sync : IsSync VarDecl.the_row
-decl_sync = search (var_sync, crosses, sendable) depth 60
+decl_sync = search (var_sync, ty_in_sync, crosses, sendable) depth 60
 
 plus_line_send : IsSend PlusLine.the_row
 plus_line_send = search (Token.the_field_send, crosses, sendable) depth 60

@@ -17,6 +17,7 @@ use Rattle.smpl_patch.specs.Faults.{first_of}
 use Rattle.smpl_patch.specs.Bodies.{Element, Atom, Block, Gap, AnyOf, End, Then, NoMore, More}
 use Rattle.smpl_patch.specs.Shapes.{is_formed_body, lengths_body, patterns_body}
 use Rattle.smpl_patch.specs.Sound.{is_plus_token, is_gap, is_sound_decl}
+use Rattle.smpl_patch.specs.Wants.{anything}
 
 -- ---- what is compared
 
@@ -49,10 +50,10 @@ abbrev x : ℕ → Var
 x rule = record { rule = rule; name = codes "x" }
 
 abbrev as_expression : VarDecl
-as_expression = record { var = x 1; kind = var_kind.Meta meta.Expr; inherited = false; not_names = []; not_places = [] }
+as_expression = record { var = x 1; kind = var_kind.Meta meta.Expr; inherited = false; not_names = []; not_places = []; wanted = anything }
 
 abbrev as_position : VarDecl
-as_position = record { var = x 1; kind = var_kind.Position; inherited = false; not_names = []; not_places = [] }
+as_position = record { var = x 1; kind = var_kind.Position; inherited = false; not_names = []; not_places = []; wanted = anything }
 
 -- a position is not a metavariable
 no_position : declared_as (as_position ∷ as_expression ∷ []) (codes "x") ≡ Some as_expression

@@ -93,12 +93,14 @@ impl VarDecl {
         let var = self.var.copy(alloc)?;
         let not_names = copy_texts(alloc, self.not_names.as_slice())?;
         let not_places = copy_vars(alloc, self.not_places.as_slice())?;
+        let wanted = self.wanted.copy(alloc)?;
         Ok(VarDecl {
             var,
             kind: self.kind,
             inherited: self.inherited,
             not_names,
             not_places,
+            wanted,
         })
     }
 }

@@ -1,8 +1,8 @@
 //! What semantic patches are made of: rules, bodies, patterns, isomorphisms, witnesses, and the faults of patches.
 //!
 //! - [`Patch`] has the virtual names and the [`Rule`]s. A rule has what it depends on ([`Dep`]), its [`Mode`], its
-//!   declared variables ([`VarDecl`]), its body, and the marks, positions and plus code at the tokens of its patterns
-//!   ([`PatToken`]).
+//!   declared variables ([`VarDecl`], with what they want of expressions, [`Wanted`]), its body, and the marks, positions
+//!   and plus code at the tokens of its patterns ([`PatToken`]).
 //! - A body is a list of [`Elem`]s over [`Pattern`]s. A pattern is an atom with its [`Spot`] and its forms.
 //! - [`stands`] says whether a variable appears in a pattern, [`used`] whether it appears there or in the plus code there,
 //!   and [`is_sure`] whether it has a value wherever the pattern matches. They look only at what is compared at a node:
@@ -25,6 +25,7 @@ mod pattern;
 mod reading;
 mod rule;
 mod sure;
+mod wanted;
 mod witness;
 
 pub use copies::{copy_decls, copy_pattern_tokens, copy_texts, copy_vars};
@@ -36,4 +37,5 @@ pub use pattern::{Mark, PatToken, Pattern, PlusBlock, PlusLine, Spot, VarDecl, V
 pub use reading::{declared_as, has_var, is_own, is_statement, is_statement_kind};
 pub use rule::{Dep, Iso, Mode, Patch, Rule};
 pub use sure::{is_sign, is_sign_tree, is_sure_in};
+pub use wanted::{NameWanted, TypeWanted, Wanted, ask_types};
 pub use witness::{RuleWitness, Witness};

@@ -1,4 +1,5 @@
 // Patterns, the marks, positions and plus code at their tokens, and declared variables.
+use crate::Wanted;
 use c_terms::{MetaKind, Text, Token, Tree};
 use smpl_terms::Var;
 use sqlite_items::Items;
@@ -22,6 +23,8 @@ pub struct VarDecl {
     pub not_names: Items<Text>,
     /// The positions of earlier rules that a position must not be.
     pub not_places: Items<Var>,
+    /// What an expression must be.
+    pub wanted: Wanted,
 }
 
 /// The sign at the start of a token's line.

@@ -14,6 +14,7 @@ use Rattle.c_terms.specs.Lists.{members}
 use Rattle.c_terms.proofs.Induct.{Each, tree_induction}
 use Rattle.text_laws.proofs.OutputLaws.TreeTokens.{Have, TreeHas, Layer, layer, SomeTreeHas, kid_at, child_has, SomeHas, MembersHave, members_have}
 use Rattle.text_laws.proofs.OutputLaws.TreeTokens.{take_have, drop_have, run_has}
+use Rattle.c_types.specs.Tables.{ItemTypes}
 use Rattle.cfg_build.specs.declared.cfg_graph.label.NodeKind.{NodeKind}
 use Rattle.cfg_build.specs.declared.cfg_graph.label.NodeKind.TheVariants as node_kind
 use Rattle.cfg_build.specs.CfgGraph.Own.{is_own}
@@ -155,7 +156,7 @@ module _ (P : Token → Type 0) where
   close_has node_kind.CloseBrace t h = last_by (out-Tree t) (layer P t h)
   close_has _ t h = tt
 
-  module _ (decls : List VarDecl) (tokens : List PatToken) (env : Environment) where
+  module _ (decls : List VarDecl) (tokens : List PatToken) (types : ItemTypes) (env : Environment) where
     runs_have : (l : Label) (before : Option Token) (ps : List Piece) (ms : List Member) (ks : List ℕ) → AreOfTrees ps → InMembers ms
         → PairsHave (runs_pairs decls tokens env l before ps ms ks)
     runs_have l before [] ms ks o h = comma_pairs_have before [] tt
@@ -182,56 +183,56 @@ module _ (P : Token → Type 0) where
     list_have : (l : Label) (ps : List Piece) (us : List Tree) → AreOfTrees ps → Each InTree us → PairsHave (list_pairs decls tokens env l ps us)
     list_have l ps us o h = runs_have l None ps (members us) (leftmost decls tokens env l None ps (members us)) o (members_have P None us tt h)
 
-    shape_have : (s : Shape) (l : Label) (ps : List Piece) (t : Tree) → AreOfTrees ps → InTree t → PairsHave (pairs_by decls tokens env s l ps t)
+    shape_have : (s : Shape) (l : Label) (ps : List Piece) (t : Tree) → AreOfTrees ps → InTree t → PairsHave (pairs_by decls tokens types env s l ps t)
     shape_have shape.Or l ps t o h = first_have ps t o h
     shape_have shape.And l ps t o h = every_have ps t o h
     shape_have shape.List l ps t o h = kids_by (list_pairs decls tokens env l) ps (out-Tree t) (λ us k. list_have l ps us o k) (layer P t h)
     shape_have shape.Plain l ps t o h = kids_by zip_pairs ps (out-Tree t) (λ us k. zip_have ps us o k) (layer P t h)
 
     abbrev FormHas : Tree → Type 0
-    FormHas form = OfTree (piece decls tokens env form)
+    FormHas form = OfTree (piece decls tokens types env form)
 
-    all_of : (forms : List Tree) → Each FormHas forms → AreOfTrees (map (piece decls tokens env) forms)
+    all_of : (forms : List Tree) → Each FormHas forms → AreOfTrees (map (piece decls tokens types env) forms)
     all_of [] h = tt
     all_of (f ∷ fs) h = (h.0, all_of fs h.1)
 
     form_has : (form : Tree) → FormHas form
     form_has = tree_induction FormHas
-        (λ a. subst OfTree (sym (piece-Leaf decls tokens env a)) (λ t h. (h, tt)))
-        (λ l cs k. subst OfTree (sym (piece-Branch decls tokens env l cs))
-        (λ t h. shape_have (shape_of l) l (map (piece decls tokens env) cs) t (all_of cs k) h))
+        (λ a. subst OfTree (sym (piece-Leaf decls tokens types env a)) (λ t h. (h, tt)))
+        (λ l cs k. subst OfTree (sym (piece-Branch decls tokens types env l cs))
+        (λ t h. shape_have (shape_of l) l (map (piece decls tokens types env) cs) t (all_of cs k) h))
 
-    forms_have : (forms : List Tree) → AreOfTrees (map (piece decls tokens env) forms)
+    forms_have : (forms : List Tree) → AreOfTrees (map (piece decls tokens types env) forms)
     forms_have [] = tt
     forms_have (f ∷ fs) = (form_has f, forms_have fs)
 
-    own_aligned : (k : NodeKind) (y : Tree-F Tree) (t : Tree) → InTree t → PairsHave (own_alignment decls tokens env k y t)
+    own_aligned : (k : NodeKind) (y : Tree-F Tree) (t : Tree) → InTree t → PairsHave (own_alignment decls tokens types env k y t)
     own_aligned k (Tree-F.Leaf a) t h = tt
     own_aligned k (Tree-F.Branch l fs) t h =
-        kids_by (own_pairs (is_own k l (length fs)) 0) (map (piece decls tokens env) fs) (out-Tree t)
-        (λ us e. own_have (is_own k l (length fs)) 0 (map (piece decls tokens env) fs) us (forms_have fs) e) (layer P t h)
+        kids_by (own_pairs (is_own k l (length fs)) 0) (map (piece decls tokens types env) fs) (out-Tree t)
+        (λ us e. own_have (is_own k l (length fs)) 0 (map (piece decls tokens types env) fs) us (forms_have fs) e) (layer P t h)
 
     if_have : (b : Bool) (xs ys : List Pair) → PairsHave xs → PairsHave ys → PairsHave (if b then xs else ys)
     if_have true xs ys h k = h
     if_have false xs ys h k = k
 
-    token_aligned : (k : NodeKind) (a : Token) (form t : Tree) → InTree t → PairsHave (token_alignment decls tokens env k a form t)
+    token_aligned : (k : NodeKind) (a : Token) (form t : Tree) → InTree t → PairsHave (token_alignment decls tokens types env k a form t)
     token_aligned k a form t h =
-        if_have (is_open_brace a) (option_pairs (alignment decls tokens env form) (open_brace k t))
-        (if is_close_brace a then option_pairs (alignment decls tokens env form) (close_brace k t) else alignment decls tokens env form t)
-        (option_have (piece decls tokens env form) (open_brace k t) (form_has form) (open_has k t h))
-        (if_have (is_close_brace a) (option_pairs (alignment decls tokens env form) (close_brace k t)) (alignment decls tokens env form t)
-        (option_have (piece decls tokens env form) (close_brace k t) (form_has form) (close_has k t h)) (form_has form t h))
+        if_have (is_open_brace a) (option_pairs (alignment decls tokens types env form) (open_brace k t))
+        (if is_close_brace a then option_pairs (alignment decls tokens types env form) (close_brace k t) else alignment decls tokens types env form t)
+        (option_have (piece decls tokens types env form) (open_brace k t) (form_has form) (open_has k t h))
+        (if_have (is_close_brace a) (option_pairs (alignment decls tokens types env form) (close_brace k t)) (alignment decls tokens types env form t)
+        (option_have (piece decls tokens types env form) (close_brace k t) (form_has form) (close_has k t h)) (form_has form t h))
 
-    branch_aligned : (k : NodeKind) (form t : Tree) → InTree t → PairsHave (branch_alignment decls tokens env k form t)
+    branch_aligned : (k : NodeKind) (form t : Tree) → InTree t → PairsHave (branch_alignment decls tokens types env k form t)
     branch_aligned node_kind.Simple form t h = form_has form t h
     branch_aligned k form t h = own_aligned k (out-Tree form) t h
 
-    whole_aligned : (k : NodeKind) (y : Tree-F Tree) (form t : Tree) → InTree t → PairsHave (whole_alignment decls tokens env k y form t)
+    whole_aligned : (k : NodeKind) (y : Tree-F Tree) (form t : Tree) → InTree t → PairsHave (whole_alignment decls tokens types env k y form t)
     whole_aligned k (Tree-F.Leaf a) form t h = token_aligned k a form t h
     whole_aligned k (Tree-F.Branch l fs) form t h = branch_aligned k form t h
 
-    spot_aligned : (s : Spot) (k : NodeKind) (form t : Tree) → InTree t → PairsHave (alignment_at decls tokens env s k form t)
+    spot_aligned : (s : Spot) (k : NodeKind) (form t : Tree) → InTree t → PairsHave (alignment_at decls tokens types env s k form t)
     spot_aligned spot.Whole k form t h = whole_aligned k (out-Tree form) form t h
     spot_aligned spot.Tail k form t h = own_aligned node_kind.DoTail (out-Tree form) t h
     spot_aligned spot.Inside k form t h = form_has form t h
@@ -251,15 +252,17 @@ module _ (P : Token → Type 0) where
     cond_found true x y h k = h
     cond_found false x y h k = k
 
-    forms_found : (decls : List VarDecl) (tokens : List PatToken) (env : Environment) (p : Pattern) (k : NodeRole) (t : Tree) (forms : List Tree) → InTree t
-        → FoundHave Q (first_aligned decls tokens env p k t forms)
-    forms_found decls tokens env p k t [] h = tt
-    forms_found decls tokens env p k t (f ∷ fs) h =
-        cond_found (fits_seat decls tokens env p k f t) (Some (numbers (alignment_at decls tokens env p.spot k.kind f t)))
-        (first_aligned decls tokens env p k t fs)
-        (numbers_have (alignment_at decls tokens env p.spot k.kind f t) (spot_aligned decls tokens env p.spot k.kind f t h))
-        (forms_found decls tokens env p k t fs h)
+    forms_found : (decls : List VarDecl) (tokens : List PatToken) (types : ItemTypes) (env : Environment) (p : Pattern) (k : NodeRole) (t : Tree)
+        (forms : List Tree) → InTree t
+        → FoundHave Q (first_aligned decls tokens types env p k t forms)
+    forms_found decls tokens types env p k t [] h = tt
+    forms_found decls tokens types env p k t (f ∷ fs) h =
+        cond_found (fits_seat decls tokens types env p k f t) (Some (numbers (alignment_at decls tokens types env p.spot k.kind f t)))
+        (first_aligned decls tokens types env p k t fs)
+        (numbers_have (alignment_at decls tokens types env p.spot k.kind f t) (spot_aligned decls tokens types env p.spot k.kind f t h))
+        (forms_found decls tokens types env p k t fs h)
 
-    pub tokens_found : (decls : List VarDecl) (tokens : List PatToken) (env : Environment) (p : Pattern) (k : NodeRole) (t : Tree) → InTree t
-        → FoundHave Q (aligned_tokens decls tokens env p k t)
-    tokens_found decls tokens env p k t h = forms_found decls tokens env p k t p.forms h
+    pub tokens_found : (decls : List VarDecl) (tokens : List PatToken) (types : ItemTypes) (env : Environment) (p : Pattern) (k : NodeRole) (t : Tree)
+        → InTree t
+        → FoundHave Q (aligned_tokens decls tokens types env p k t)
+    tokens_found decls tokens types env p k t h = forms_found decls tokens types env p k t p.forms h

@@ -4,7 +4,7 @@ use Rattle.std.specs.Prelude.{All}
 use Rattle.c_lexer.specs.Pieces.{TextPiece}
 use Rattle.c_lexer.specs.Ids.{ids_of}
 use Rattle.cpp_lines.specs.declared.reading.Item.{Item}
-use Rattle.cfg_build.specs.declared.cfg_graph.label.NodeKind.{NodeKind}
+use Rattle.edit_marks.specs.declared.edit_walk.nodes.ItemNodes.{ItemNodes}
 use Rattle.smpl_patch.specs.declared.rule.Rule.{Rule}
 use Rattle.smpl_patch.specs.declared.witness.RuleWitness.{RuleWitness}
 use Rattle.smpl_patch.specs.Bodies.{body}
@@ -27,22 +27,22 @@ use Rattle.text_laws.proofs.Places.{GoodAt}
 use Rattle.text_laws.proofs.Strays.{Touches, strays_stay}
 use Rattle.text_laws.proofs.Touched.{touch_good}
 
-module _ (found : List RuleWitness) (rule : Rule) (items : List Item) (kinds : List (List NodeKind)) (pieces : List TextPiece) (edits : List Edit)
-    (h : AreEdits found rule items kinds pieces edits) where
+module _ (found : List RuleWitness) (rule : Rule) (items : List Item) (nodes : List ItemNodes) (pieces : List TextPiece) (edits : List Edit)
+    (h : AreEdits found rule items nodes pieces edits) where
   plain_edits : HaveSoundTouches rule (touches found) → All (λ (e : Edit). ArePlainInserts e.inserts) edits
   plain_edits sound =
       let P = λ (e : Edit). ArePlainInserts e.inserts in
-      let pairs = λ (t : Touched). pairs_at (patterns_body (body rule.body)) rule.vars rule.tokens items kinds (ids_of pieces) t in
+      let pairs = λ (t : Touched). pairs_at (patterns_body (body rule.body)) rule.vars rule.tokens items nodes (ids_of pieces) t in
       subst (λ (l : List Edit). All P l) (sym h.distinct) (once_all P h.all
-      (each_all_with P (IsEditAt rule items kinds pieces) (λ t. HaveSoundBlocks rule.vars rule.tokens t.env) (touches found) h.all
+      (each_all_with P (IsEditAt rule items nodes pieces) (λ t. HaveSoundBlocks rule.vars rule.tokens t.env) (touches found) h.all
       (λ t e own is. edit_plain rule.vars rule.tokens t.env (file_tokens pieces) (pairs t) e is own (blank_indents pieces)) sound h.each))
 
   good_edits : All (IsSoundItem pieces) items → AllDiffer (ids_of pieces) → All (Touches (GoodAt false 0 pieces)) edits
   good_edits sound differ =
       let P = Touches (GoodAt false 0 pieces) in
       subst (λ (l : List Edit). All P l) (sym h.distinct) (once_all P h.all
-      (each_all P (IsEditAt rule items kinds pieces) (touches found) h.all
-      (λ t e is. touch_good pieces differ (patterns_body (body rule.body)) rule.vars rule.tokens items kinds (file_tokens pieces) t e sound is) h.each))
+      (each_all P (IsEditAt rule items nodes pieces) (touches found) h.all
+      (λ t e is. touch_good pieces differ (patterns_body (body rule.body)) rule.vars rule.tokens items nodes (file_tokens pieces) t e sound is) h.each))
 
   pub fair : All (IsSoundItem pieces) items → AllDiffer (ids_of pieces) → HaveSoundTouches rule (touches found) → Fair pieces edits
   fair items_sound differ sound = record {

@@ -15,7 +15,7 @@ use Rattle.c_lexer.specs.Ids.{ids_of}
 use Rattle.c_show.specs.PlainText.{is_plain_token}
 use Rattle.cpp_lines.specs.declared.reading.Item.{Item}
 use Rattle.cpp_lines.specs.declared.reading.Item.TheVariants.{Parsed, Skipped}
-use Rattle.cfg_build.specs.declared.cfg_graph.label.NodeKind.{NodeKind}
+use Rattle.edit_marks.specs.declared.edit_walk.nodes.ItemNodes.{ItemNodes}
 use Rattle.smpl_terms.specs.Environments.{total}
 use Rattle.smpl_patch.specs.declared.pattern.VarDecl.{VarDecl}
 use Rattle.smpl_patch.specs.declared.pattern.PatToken.{PatToken}
@@ -37,7 +37,8 @@ use Rattle.pat_match.specs.Roles.{role_at}
 use Rattle.pat_match.specs.PatPairs.Pairs.{aligned_tokens}
 use Rattle.edit_marks.specs.EditWalk.Touches.{Touched}
 use Rattle.edit_marks.specs.EditWalk.Keys.{number_of}
-use Rattle.edit_marks.specs.EditWalk.Named.{pattern_of, kind_at, part_of, tree_at, numbered, pairs_of, alignment, pairs_at}
+use Rattle.edit_marks.specs.EditWalk.Named.{pattern_of, part_of, tree_at, numbered, pairs_of, alignment, pairs_at}
+use Rattle.edit_marks.specs.EditWalk.Nodes.{kind_at, types_at}
 use Rattle.text_laws.specs.ReadingLaws.Sound.{StandsApart, IsSoundItem}
 use Rattle.text_laws.specs.OutputLaws.Differ.{AllDiffer}
 use Rattle.text_laws.proofs.OutputLaws.TreeTokens.{Have, TreeHas, SomeTreeHas, subtree_has}
@@ -90,18 +91,20 @@ module _ (pieces : List TextPiece) where
   then_any f from None = tt
   then_any f from (Some a) = from a
 
-  found_at : (patterns : List Pattern) (decls : List VarDecl) (tokens : List PatToken) (items : List Item) (kinds : List (List NodeKind)) (ids : List ℕ)
+  found_at : (patterns : List Pattern) (decls : List VarDecl) (tokens : List PatToken) (items : List Item) (nodes : List ItemNodes) (ids : List ℕ)
       (t : Touched)
-      → All (IsSoundItem pieces) items → Found (alignment patterns decls tokens items kinds ids t)
-  found_at patterns decls tokens items kinds ids t h =
+      → All (IsSoundItem pieces) items → Found (alignment patterns decls tokens items nodes ids t)
+  found_at patterns decls tokens items nodes ids t h =
       then_any (λ p. option_and_then (λ k. option_and_then
-      (λ tree. aligned_tokens decls tokens (total t.env) p (role_at k t.path) tree) (tree_at items t.item t.path))
-      (kind_at kinds t.item t.node))
-      (λ p. then_any (λ k. option_and_then (λ tree. aligned_tokens decls tokens (total t.env) p (role_at k t.path) tree) (tree_at items t.item t.path))
-      (λ k. then_tree (λ tree. aligned_tokens decls tokens (total t.env) p (role_at k t.path) tree)
-      (λ tree own. tokens_found (IsApart pieces) (IsId pieces) (from_token pieces) decls tokens (total t.env) p (role_at k t.path) tree own)
+      (λ tree. aligned_tokens decls tokens (types_at nodes t.item) (total t.env) p (role_at k t.path) tree) (tree_at items t.item t.path))
+      (kind_at nodes t.item t.node))
+      (λ p. then_any (λ k. option_and_then (λ tree. aligned_tokens decls tokens (types_at nodes t.item) (total t.env) p (role_at k t.path) tree)
+      (tree_at items t.item t.path))
+      (λ k. then_tree (λ tree. aligned_tokens decls tokens (types_at nodes t.item) (total t.env) p (role_at k t.path) tree)
+      (λ tree own. tokens_found (IsApart pieces) (IsId pieces) (from_token pieces) decls tokens (types_at nodes t.item) (total t.env) p
+      (role_at k t.path) tree own)
       (tree_at items t.item t.path) (item_apart pieces items t.item t.path h))
-      (kind_at kinds t.item t.node))
+      (kind_at nodes t.item t.node))
       (pattern_of patterns t.atom)
 
 -- ---- numbers that are aligned
@@ -219,10 +222,10 @@ module _ (pieces : List TextPiece) (apart : AllDiffer (ids_of pieces)) where
         (all_spots_good tokens pairs h))),
   )
 
-  pub touch_good : (patterns : List Pattern) (decls : List VarDecl) (tokens : List PatToken) (items : List Item) (kinds : List (List NodeKind))
+  pub touch_good : (patterns : List Pattern) (decls : List VarDecl) (tokens : List PatToken) (items : List Item) (nodes : List ItemNodes)
       (files : List FileToken) (t : Touched) (edit : Edit)
-      → All (IsSoundItem pieces) items → EditOf decls tokens t.env files (pairs_at patterns decls tokens items kinds (ids_of pieces) t) edit
+      → All (IsSoundItem pieces) items → EditOf decls tokens t.env files (pairs_at patterns decls tokens items nodes (ids_of pieces) t) edit
       → Touches Good edit
-  touch_good patterns decls tokens items kinds files t edit h is =
-      edit_good decls tokens t.env files (pairs_at patterns decls tokens items kinds (ids_of pieces) t) edit
-      (pairs_good (alignment patterns decls tokens items kinds (ids_of pieces) t) (found_at pieces patterns decls tokens items kinds (ids_of pieces) t h)) is
+  touch_good patterns decls tokens items nodes files t edit h is =
+      edit_good decls tokens t.env files (pairs_at patterns decls tokens items nodes (ids_of pieces) t) edit
+      (pairs_good (alignment patterns decls tokens items nodes (ids_of pieces) t) (found_at pieces patterns decls tokens items nodes (ids_of pieces) t h)) is

@@ -4,12 +4,12 @@ ghost use Rattle.c_lexer.specs.Pieces.{TextPiece};
 ghost use Rattle.c_lexer.specs.Lexes.{Cuts, Lexes};
 ghost use Rattle.c_lexer.specs.Ids.{ids_of};
 ghost use Rattle.cpp_lines.specs.declared.reading.Item.{Item};
-ghost use Rattle.cfg_build.specs.declared.cfg_graph.label.NodeKind.{NodeKind};
 ghost use Rattle.smpl_patch.specs.declared.rule.Rule.{Rule};
 ghost use Rattle.smpl_patch.specs.declared.witness.RuleWitness.{RuleWitness};
 ghost use Rattle.edit_marks.specs.declared.edit_conflict.edit.Edit.{Edit};
 ghost use Rattle.edit_unparse.specs.Fair.{Fair};
 ghost use Rattle.edit_marks.specs.EditWalk.Touches.{touches};
+ghost use Rattle.edit_marks.specs.declared.edit_walk.nodes.ItemNodes.{ItemNodes};
 ghost use Rattle.edit_marks.specs.EditWalk.Edited.{AreEdits};
 ghost use Rattle.edit_marks.specs.EditWalk.Fit.{HaveSoundTouches};
 ghost use Rattle.rule_chain.specs.RuleEdits.Pages.{page_after};
@@ -38,10 +38,10 @@ pub fn ids_stay_few()
 /// whatever follows a Stray is kept. The law requires that plus code and values consist of such tokens at the touches. Does
 /// nothing.
 pub fn edits_are_fair()
-    ensures { (found : List RuleWitness) (rule : Rule) (items : List Item) (kinds : List (List NodeKind))
+    ensures { (found : List RuleWitness) (rule : Rule) (items : List Item) (nodes : List ItemNodes)
         (pieces : List TextPiece) (edits : List Edit) → Cuts pieces → Reads pieces items
         → AllDiffer (ids_of pieces) → HaveSoundTouches rule (touches found)
-        → AreEdits found rule items kinds pieces edits → Fair pieces edits }
+        → AreEdits found rule items nodes pieces edits → Fair pieces edits }
 {
     trees_are_sound();
 }
@@ -54,10 +54,10 @@ pub fn touches_are_sound()
 
 /// The text after the edits of witnesses is cut into as many tokens as it has ids. Does nothing.
 pub fn text_keeps_its_tokens()
-    ensures { (found : List RuleWitness) (rule : Rule) (items : List Item) (kinds : List (List NodeKind))
+    ensures { (found : List RuleWitness) (rule : Rule) (items : List Item) (nodes : List ItemNodes)
         (pieces : List TextPiece) (edits : List Edit) (next : ℕ) (again : List TextPiece) → Cuts pieces
         → Reads pieces items → AllDiffer (ids_of pieces) → HaveSoundTouches rule (touches found)
-        → AreEdits found rule items kinds pieces edits → Lexes (page_after next pieces edits).bytes again
+        → AreEdits found rule items nodes pieces edits → Lexes (page_after next pieces edits).bytes again
         → length (ids_of again) ≡ length (page_after next pieces edits).ids }
 {
     trees_are_sound();

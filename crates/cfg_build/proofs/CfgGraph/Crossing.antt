@@ -3,6 +3,7 @@ use denote.Param.Send.{IsSend, IsSync, sendable}
 use denote.Ref.{NamedLft}
 use Rattle.std.proofs.Crossing.{crosses}
 use Rattle.c_terms.proofs.Crossing.{tree_sync, tree_in_send, tree_in_sync}
+use Rattle.c_types.proofs.Crossing.{table_in_send, table_in_sync}
 use Rattle.cfg_build.specs.contracts.cfg_graph.node.NodeEntry as NodeEntry
 use Rattle.cfg_build.specs.contracts.cfg_graph.link_rows.LinkRows as LinkRows
 use Rattle.cfg_build.specs.contracts.cfg_graph.graph.GraphBuilder as GraphBuilder
@@ -27,7 +28,7 @@ rows_in_sync : (κ : NamedLft) → IsSync (GraphBuilder.the_field κ).row
 rows_in_sync κ = search (entry_sync, tree_in_sync, links_in_sync, crosses, sendable) depth 60 fits 20000
 
 pub graph_send : (κ : NamedLft) → IsSend (Graph.the_row κ)
-graph_send κ = search (rows_in_send, crosses, sendable) depth 60
+graph_send κ = search (rows_in_send, table_in_send, crosses, sendable) depth 60
 
 pub graph_sync : (κ : NamedLft) → IsSync (Graph.the_row κ)
-graph_sync κ = search (rows_in_sync, crosses, sendable) depth 60
+graph_sync κ = search (rows_in_sync, table_in_sync, crosses, sendable) depth 60

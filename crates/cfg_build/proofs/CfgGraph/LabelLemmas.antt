@@ -3,6 +3,7 @@ use Rattle.std.proofs.Common.{◌≡◌, ℕ, zero, suc, ◌<◌, refl, sym, ap,
 use Rattle.std.proofs.Common.{append-nil, Option, Some, slice_get}
 use Rattle.std.proofs.lemmas.Option.{slice_get_read}
 use Rattle.c_terms.specs.declared.tree.Tree.{Tree}
+use Rattle.c_types.specs.Tables.{no_types}
 use Rattle.cfg_build.specs.declared.cfg_graph.label.NodeLabel.{NodeLabel}
 use Rattle.cfg_build.specs.declared.cfg_graph.node.NodeEntry.{NodeEntry}
 use Rattle.cfg_build.specs.CfgGraph.Flow.{Flow, count_of}
@@ -51,8 +52,8 @@ kept-length ns g e = sym (labels-length [] ns) ∙ ap length e
 -- the lists with one more node
 pub node-put : (ns more : List NodeEntry) (n : NodeEntry) (succ succ' down down' : List (List ℕ)) (past past' : List (Option ℕ)) (s d : List ℕ) (p : Option ℕ)
     → more ≡ ns ++ n ∷ [] → succ' ≡ succ ++ s ∷ [] → past' ≡ past ++ p ∷ [] → down' ≡ down ++ d ∷ []
-    → record { labels = labels_of more; succ = succ'; past = past'; down = down' }
-    ≡ with_node (record { labels = labels_of ns; succ = succ; past = past; down = down }) n s p d
+    → record { labels = labels_of more; succ = succ'; past = past'; down = down'; types = no_types }
+    ≡ with_node (record { labels = labels_of ns; succ = succ; past = past; down = down; types = no_types }) n s p d
 node-put ns more n succ succ' down down' past past' s d p e es ep ed =
     let l = ap labels_of e ∙ labels-snoc [] ns n ∙ ap (λ ps. labels_of ns ++ label_of (path_to ps n.seat) n ∷ []) (sym (labels-paths [] ns)) in
-    λ j. record { labels = l j; succ = es j; past = ep j; down = ed j }
+    λ j. record { labels = l j; succ = es j; past = ep j; down = ed j; types = no_types }

@@ -1,13 +1,16 @@
 -- A graph as contracts see it.
 use Rattle.std.specs.Prelude.{◌≡◌, ℕ, ◌^◌, ◌<◌, List, [], ◌∷◌, length, slice_index_or, Option, None, All, IfSome}
+use Rattle.c_types.specs.Tables.{ItemTypes}
 use Rattle.cfg_build.specs.declared.cfg_graph.label.NodeLabel.{NodeLabel}
 
--- for each node: its label, its successors, the node past its statement, the entries of its branches
+-- for each node: its label, its successors, the node past its statement, the entries of its branches; and what is known of the
+-- types of the item's expressions
 pub record Flow : Type 0 where
   pub labels : List NodeLabel
   pub succ : List (List ℕ)
   pub past : List (Option ℕ)
   pub down : List (List ℕ)
+  pub types : ItemTypes
 
 abbrev pub count_of : Flow → ℕ
 count_of g = length g.labels
@@ -45,3 +48,7 @@ pub record IsSound (g : Flow) : Type 0 where
   pub succ_links : All (AreLinks (count_of g)) g.succ
   pub past_nodes : All (λ p. IfSome p (λ n. n < count_of g)) g.past
   pub down_nodes : All (λ numbers. All (λ n. n < count_of g) numbers) g.down
+
+-- the graph with these types
+abbrev pub with_types : Flow → ItemTypes → Flow
+with_types g types = record g { types = types }

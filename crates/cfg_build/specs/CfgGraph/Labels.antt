@@ -45,4 +45,5 @@ with_node g n succ past down = record {
   succ = g.succ ++ succ ∷ [];
   past = g.past ++ past ∷ [];
   down = g.down ++ down ∷ [];
+  types = g.types;
 }

@@ -1,6 +1,7 @@
 // Graphs and their builder.
 ghost use Rattle.std.specs.Prelude.{◌≡◌, ◌<◌, ◌≤◌, [], Some, OnOk, IfOk, length, slice_get};
-ghost use Rattle.cfg_build.specs.CfgGraph.Flow.{Flow, IsSound, count_of, succ_of, past_of, down_of};
+ghost use Rattle.c_types.specs.Tables.{no_types};
+ghost use Rattle.cfg_build.specs.CfgGraph.Flow.{Flow, IsSound, count_of, succ_of, past_of, down_of, with_types};
 ghost use Rattle.cfg_build.specs.CfgGraph.Seats.{seat_needs};
 ghost use Rattle.cfg_build.specs.CfgGraph.Empty.{no_statements};
 ghost use Rattle.cfg_build.specs.CfgGraph.Labels.{tree_of, with_node};
@@ -10,12 +11,13 @@ use crate::cfg_graph::link_rows::LinkRows;
 use crate::cfg_graph::node::NodeEntry;
 use crate::cfg_graph::path::NodePath;
 use c_terms::{Label, NoMemory, Tree};
+use c_types::{KnownTypes, TypeTable};
 use sqlite_items::Items;
 use std::alloc::Global;
 use std::marker::Model;
 
 /// A graph under construction. Contracts see the four lists of its nodes so far: labels, successors, what is past them, and
-/// the entries of branches.
+/// the entries of branches; and no types.
 #[derive(Drop)]
 pub struct GraphBuilder<'a> {
     nodes: Vec<NodeEntry<'a>>,
@@ -32,14 +34,16 @@ impl<'a> Model for GraphBuilder<'a> {
     ghost use Rattle.cfg_build.specs.CfgGraph.Flow.{Flow as Lists};
     ghost use Rattle.cfg_build.specs.CfgGraph.Seats.{AreSeated};
     ghost use Rattle.cfg_build.specs.CfgGraph.Labels.{labels_of};
+    ghost use Rattle.c_types.specs.Tables.{no_types};
     ghost use Rattle.std.specs.Coded.{codes};
     ghost use Rattle.c_terms.specs.contracts.tree.Tree as tree;
+    ghost use Rattle.c_types.specs.contracts.ty.Ty as ty;
 
     ghost Value = { Lists };
 
-    ghost coded = { Prim.hlevel (codes, tree.the_row.coded) };
+    ghost coded = { Prim.hlevel (codes, tree.the_row.coded, ty.the_row.coded) };
 
-    ghost view = { λ g. record { labels = labels_of g.nodes.items; succ = g.succ; past = g.past.items; down = g.down } };
+    ghost view = { λ g. record { labels = labels_of g.nodes.items; succ = g.succ; past = g.past.items; down = g.down; types = no_types } };
 
     ghost invariant = { λ g. AreSeated g.nodes.items × (g.nothing ≡ no_statements) };
 }
@@ -47,7 +51,7 @@ impl<'a> Model for GraphBuilder<'a> {
 impl<'a> GraphBuilder<'a> {
     /// Returns a builder without nodes, with capacity for `room` nodes.
     pub fn new(alloc: Global, room: usize) -> Result<GraphBuilder<'a>, NoMemory>
-        ensures none { IfOk result (λ g. g ≡ record { labels = []; succ = []; past = []; down = [] }) }
+        ensures none { IfOk result (λ g. g ≡ record { labels = []; succ = []; past = []; down = []; types = no_types }) }
     {
         let nodes = Vec::with_capacity(alloc, room)?;
         let succ = LinkRows::new(alloc, room, room)?;
@@ -85,7 +89,12 @@ impl<'a> GraphBuilder<'a> {
         requires sound { IsSound self }
         ensures same { result ≡ self.entry }
     {
-        Graph { rows: self }
+        // seen by its fields, the builder has no types
+        let _nothing = &self.nothing;
+        Graph {
+            rows: self,
+            types: None,
+        }
     }
 
     fn label(&self, n: usize) -> NodeLabel<'_>
@@ -123,22 +132,26 @@ fn tree_of<'b>(kind: NodeKind, tree: &'b Tree, nothing: &'b Tree) -> &'b Tree
 }
 
 /// A graph: for each node its label, its successors, what is past its statement, and the entries of its branches.
-/// Contracts see the four lists. Each node has a successor, and all numbers are nodes.
+/// Contracts see the four lists, and what is known of the types of the item's expressions. Each node has a successor, and all
+/// numbers are nodes.
 #[derive(Drop)]
 pub struct Graph<'a> {
     rows: GraphBuilder<'a>,
+    types: Option<TypeTable>,
 }
 
 impl<'a> Model for Graph<'a> {
     ghost use Rattle.cfg_build.specs.CfgGraph.Flow.{Flow as Lists, IsSound};
     ghost use Rattle.std.specs.Coded.{codes};
     ghost use Rattle.c_terms.specs.contracts.tree.Tree as tree;
+    ghost use Rattle.c_types.specs.Tables.{types_or_none};
+    ghost use Rattle.c_types.specs.contracts.ty.Ty as ty;
 
     ghost Value = { Lists };
 
-    ghost coded = { Prim.hlevel (codes, tree.the_row.coded) };
+    ghost coded = { Prim.hlevel (codes, tree.the_row.coded, ty.the_row.coded) };
 
-    ghost view = { λ g. g.rows };
+    ghost view = { λ g. record g.rows { types = types_or_none g.types } };
 
     ghost invariant = { λ g. IsSound g.rows };
 }
@@ -184,5 +197,24 @@ impl<'a> Graph<'a> {
         ensures value { slice_get self.now.labels n ≡ Some result }
     {
         self.rows.label(n as usize)
+    }
+
+    /// Returns the same graph with these types. Takes no memory.
+    pub fn with_types(self, types: TypeTable) -> Graph<'a>
+        ensures value { result ≡ with_types self.entry types }
+    {
+        let Graph { rows, types: _ } = self;
+        Graph {
+            rows,
+            types: Some(types),
+        }
+    }
+
+    /// Returns what is known of the types of the item's expressions: nothing, unless the graph was given types. Takes no
+    /// memory.
+    pub fn types(&self) -> KnownTypes<'_>
+        ensures value { result ≡ self.now.types }
+    {
+        KnownTypes::of(self.types.as_ref())
     }
 }

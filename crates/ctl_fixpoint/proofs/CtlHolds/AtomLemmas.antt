@@ -17,6 +17,7 @@ use Rattle.c_terms.proofs.Induct.{Each, tree_induction, tree_cases}
 use Rattle.c_terms.proofs.PlaceLaws.{child_known, parts-Leaf, parts-Branch}
 use Rattle.c_terms.proofs.SameLemmas.{out-Leaf, out-Branch}
 use Rattle.c_terms.proofs.TreeLemmas.{leaves-Leaf, leaves-Branch}
+use Rattle.c_types.specs.Tables.{ItemTypes}
 use Rattle.smpl_terms.specs.declared.var.Var.{Var}
 use Rattle.smpl_terms.specs.declared.value.Value.{Value}
 use Rattle.smpl_terms.specs.declared.value.Value.TheVariants.{Term, Place}
@@ -208,7 +209,7 @@ pub kept_sure : (a b : Bool) → a ≡ true → (not a || b) ≡ true → b ≡ 
 kept_sure true b e h = h
 kept_sure false b e h = absurd (cc)
 
-module _ (decls : List VarDecl) (tokens : List PatToken) (env : Environment) (x : Var) where
+module _ (decls : List VarDecl) (tokens : List PatToken) (types : ItemTypes) (env : Environment) (x : Var) where
   token_at : (q : Var → Bool) (a : Token) → token_passes decls tokens q a ≡ true → is_own decls tokens x a ≡ true → q x ≡ true
   token_at q a h e = ⊎_elim
       (λ m. meta_at decls q x a.kind a (and_left _ _ h) m)
@@ -231,18 +232,18 @@ module _ (decls : List VarDecl) (tokens : List PatToken) (env : Environment) (x 
   first_form s form (first ∷ fs) e h l = live_form s first form e h l
 
   seat_law : (p : Pattern) (r : NodeRole) (form t : Tree) → sure decls tokens p x ≡ true → SureStand decls tokens p
-      → fits_seat decls tokens env p r form t ≡ true → has_value t (env x) ≡ true
+      → fits_seat decls tokens types env p r form t ≡ true → has_value t (env x) ≡ true
   seat_law p r form t e stand h =
-      held_has_value decls tokens env x p.spot r.kind form t (and_right _ _ h)
+      held_has_value decls tokens types env x p.spot r.kind form t (and_right _ _ h)
       (first_form p.spot form p.forms e (stand x e) (and_left _ _ (and_left _ _ h)))
 
   match_law : (p : Pattern) (l : NodeLabel) → sure decls tokens p x ≡ true → SureStand decls tokens p
-      → matches decls tokens env p l ≡ true → has_value l.tree (env x) ≡ true
+      → matches decls tokens types env p l ≡ true → has_value l.tree (env x) ≡ true
   match_law p l e stand h =
       let f = any_found
-      (λ f. list_any (λ (s : Spot_in). fits_seat decls tokens env p (role_of l) f s.tree) (seats p.spot l.kind l.tree)) p.forms h in
+      (λ f. list_any (λ (s : Spot_in). fits_seat decls tokens types env p (role_of l) f s.tree) (seats p.spot l.kind l.tree)) p.forms h in
       seat-value (env x) p.spot l.kind l.tree
-      (any_weaker (λ (s : Spot_in). fits_seat decls tokens env p (role_of l) f.0 s.tree) (here (env x)) (seats p.spot l.kind l.tree)
+      (any_weaker (λ (s : Spot_in). fits_seat decls tokens types env p (role_of l) f.0 s.tree) (here (env x)) (seats p.spot l.kind l.tree)
       (λ s c w. seat_law p (role_of l) f.0 s.tree e stand w) f.2)
 
 -- a test that passes at a node passes at its label
@@ -256,16 +257,16 @@ module _ (decls : List VarDecl) (tokens : List PatToken) (g : Flow) (p : Pattern
   pub atom-among : sure decls tokens p x ≡ true → atom_at decls tokens g p s env ≡ true
       → is_among (values_of g) (env x) ≡ true
   atom-among e h =
-      let l = label_of g s (λ l. matches decls tokens env p l) (slice_get g.labels s) refl h in
-      among-label g s l.0 (env x) l.1 (match_law decls tokens env x p l.0 e stand l.2)
+      let l = label_of g s (λ l. matches decls tokens g.types env p l) (slice_get g.labels s) refl h in
+      among-label g s l.0 (env x) l.1 (match_law decls tokens g.types env x p l.0 e stand l.2)
 
   pub brace-among : (is : NodeKind → Bool) (b : Var) → (sure decls tokens p x || same_var b x) ≡ true
       → brace_at decls tokens g is p b s env ≡ true → is_among (values_of g) (env x) ≡ true
   brace-among is b e h =
-      let l = label_of g s (λ l. is l.kind && same (Place l.brace) (env b) && matches decls tokens env p l)
+      let l = label_of g s (λ l. is l.kind && same (Place l.brace) (env b) && matches decls tokens g.types env p l)
       (slice_get g.labels s) refl h in
       ⊎_elim
-      (λ a. among-label g s l.0 (env x) l.1 (match_law decls tokens env x p l.0 a stand (and_right _ _ l.2)))
+      (λ a. among-label g s l.0 (env x) l.1 (match_law decls tokens g.types env x p l.0 a stand (and_right _ _ l.2)))
       (λ a. subst (λ (z : Var). is_among (values_of g) (env z) ≡ true) (same_var-equal b x a)
       (among-place g l.0.brace (env b) (label-place g s l.0 l.1) (and_right _ _ (and_left _ _ l.2))))
       (or_cases (sure decls tokens p x) (same_var b x) e)

@@ -4,6 +4,7 @@
 --                                ├─► 4 while ─► 4
 --                                └─► 5 `}` ─► 6
 use Rattle.std.proofs.Common.{◌≡◌, ℕ, Bool, true, false, refl, List, [], ◌∷◌, map, Option, Some, None}
+use Rattle.c_types.specs.Tables.{no_types}
 use Rattle.cfg_build.specs.declared.cfg_graph.label.NodeKind.{NodeKind}
 use Rattle.cfg_build.specs.declared.cfg_graph.label.NodeKind.TheVariants as kind
 use Rattle.cfg_build.specs.declared.cfg_graph.label.NodeLabel.{NodeLabel}
@@ -26,6 +27,7 @@ g = record {
   succ = (1 ∷ []) ∷ (2 ∷ []) ∷ (3 ∷ 4 ∷ 5 ∷ []) ∷ (6 ∷ []) ∷ (4 ∷ []) ∷ (6 ∷ []) ∷ (6 ∷ []) ∷ [];
   past = None ∷ None ∷ Some 5 ∷ None ∷ Some 5 ∷ Some 6 ∷ None ∷ [];
   down = (1 ∷ []) ∷ [] ∷ (3 ∷ 4 ∷ []) ∷ [] ∷ [] ∷ [] ∷ [] ∷ [];
+  types = no_types;
 }
 
 -- walks of at most, or exactly, m nodes
@@ -120,6 +122,7 @@ nested = record {
   succ = [];
   past = [];
   down = [];
+  types = no_types;
 }
 
 -- at nodes 0 to 9, of which the last is not in the graph, if each variable has the value

@@ -7,6 +7,7 @@ use Rattle.std.proofs.lemmas.List.{drop_all}
 use Rattle.std.proofs.lemmas.Option.{slice_get_read}
 use Rattle.c_terms.specs.declared.tree.Tree.{Tree}
 use Rattle.c_terms.specs.Places.{Place}
+use Rattle.c_types.specs.Tables.{ItemTypes}
 use Rattle.smpl_terms.specs.Environments.{Environment}
 use Rattle.smpl_patch.specs.declared.pattern.VarDecl.{VarDecl}
 use Rattle.smpl_patch.specs.declared.pattern.PatToken.{PatToken}
@@ -86,28 +87,28 @@ not-true : (b : Bool) → not b ≡ true → b ≡ false
 not-true true h = absurd (cc)
 not-true false h = refl
 
-module _ (decls : List VarDecl) (tokens : List PatToken) (env : Environment) where
+module _ (decls : List VarDecl) (tokens : List PatToken) (types : ItemTypes) (env : Environment) where
   -- a form that needs a word fits nothing if the tree lacks the word
   lacks-fit : (w : List ℕ) (p : Pattern) (r : NodeRole) (form t : Tree) → held_spells w p.spot form ≡ true → has_word w t ≡ false
-      → fits_some decls tokens env p r t form ≡ false
-  lacks-fit w p r form t h a = no (fits_some decls tokens env p r t form) (λ e.
+      → fits_some decls tokens types env p r t form ≡ false
+  lacks-fit w p r form t h a = no (fits_some decls tokens types env p r t form) (λ e.
       not_both (has_word w t)
-      (seat-word w p.spot r.kind t (any_weaker (λ (s : Place). fits_seat decls tokens env p r form s.tree) (here w) (seats p.spot r.kind t)
-      (λ s c q. held_has_word decls tokens env w p.spot r.kind form s.tree (and_right _ _ q) h) e)) a)
+      (seat-word w p.spot r.kind t (any_weaker (λ (s : Place). fits_seat decls tokens types env p r form s.tree) (here w) (seats p.spot r.kind t)
+      (λ s c q. held_has_word decls tokens types env w p.spot r.kind form s.tree (and_right _ _ q) h) e)) a)
 
   absent-fit : (w : Option (List ℕ)) (p : Pattern) (k : NodeRole) (form t : Tree) → finds w p.spot form ≡ true → is_absent w t ≡ true
-      → fits_some decls tokens env p k t form ≡ false
+      → fits_some decls tokens types env p k t form ≡ false
   absent-fit None p k form t h a = absurd (cc)
   absent-fit (Some w) p k form t h a = lacks-fit w p k form t h (not-true (has_word w t) a)
 
   -- no form of the run fits
   pub run-skipped : (p : Pattern) (k : NodeRole) (t : Tree) (w : Option (List ℕ)) (n e : ℕ) → n ≤ e → IsRun p.spot p.forms w n e
       → is_absent w t ≡ true
-      → list_any (fits_some decls tokens env p k t) (drop e p.forms) ≡ list_any (fits_some decls tokens env p k t) (drop n p.forms)
+      → list_any (fits_some decls tokens types env p k t) (drop e p.forms) ≡ list_any (fits_some decls tokens types env p k t) (drop n p.forms)
   run-skipped p k t w n e le run a =
-      sym (skip-some (fits_some decls tokens env p k t) p.forms (e - n) n
+      sym (skip-some (fits_some decls tokens types env p k t) p.forms (e - n) n
       (λ i form l r g. absent-fit w p k form t (run i form l (omega arith) g) a)
-      ∙ ap (λ m. list_any (fits_some decls tokens env p k t) (drop m p.forms)) (omega arith))
+      ∙ ap (λ m. list_any (fits_some decls tokens types env p k t) (drop m p.forms)) (omega arith))
 
 -- consecutive runs
 

@@ -5,7 +5,9 @@ use Rattle.std.specs.List.{list_any, list_all}
 use Rattle.c_terms.specs.declared.tree.Tree.{Tree}
 use Rattle.cfg_build.specs.declared.cfg_graph.label.NodeKind.{NodeKind}
 use Rattle.cfg_build.specs.declared.cfg_graph.label.NodeLabel.{NodeLabel}
-use Rattle.cfg_build.specs.CfgGraph.Flow.{Flow, IsSound, count_of, succ_of, past_of, down_of}
+use Rattle.c_types.specs.Tables.{ItemTypes}
+use Rattle.cfg_build.specs.CfgGraph.Flow.{Flow, IsSound, count_of, succ_of, past_of, down_of, with_types}
+use Rattle.cfg_build.proofs.TypedLemmas.{typed-sound}
 use Rattle.cfg_build.specs.Graphs.{node_count, graph_of}
 use Rattle.cfg_build.proofs.SoundLemmas.{graph_of-sound}
 use Rattle.smpl_terms.specs.declared.var.Var.{Var}
@@ -79,15 +81,15 @@ module _ (g : Flow) (ok : IsSound g) where
     atom_no : (p : Pattern) → spelled w p ≡ true → (s : ℕ) (env : Environment) → atom_at decls tokens g p s env ≡ false
     atom_no p e s env = never (atom_at decls tokens g p s env)
         (λ h.
-        let l = label_of g s (λ l. matches decls tokens env p l) (slice_get g.labels s) refl h in
-        not_both (has_word w l.0.tree) (match_word decls tokens env w p l.0 e l.2) (lacks s l.0 l.1))
+        let l = label_of g s (λ l. matches decls tokens g.types env p l) (slice_get g.labels s) refl h in
+        not_both (has_word w l.0.tree) (match_word decls tokens g.types env w p l.0 e l.2) (lacks s l.0 l.1))
 
     brace_no : (is : NodeKind → Bool) (p : Pattern) (b : Var) → spelled w p ≡ true → (s : ℕ) (env : Environment)
         → brace_at decls tokens g is p b s env ≡ false
     brace_no is p b e s env = never (brace_at decls tokens g is p b s env)
         (λ h.
-        let l = label_of g s (λ l. is l.kind && same (Place l.brace) (env b) && matches decls tokens env p l) (slice_get g.labels s) refl h in
-        not_both (has_word w l.0.tree) (match_word decls tokens env w p l.0 e (and_right _ _ l.2)) (lacks s l.0 l.1))
+        let l = label_of g s (λ l. is l.kind && same (Place l.brace) (env b) && matches decls tokens g.types env p l) (slice_get g.labels s) refl h in
+        not_both (has_word w l.0.tree) (match_word decls tokens g.types env w p l.0 e (and_right _ _ l.2)) (lacks s l.0 l.1))
 
     none : (f : Plain) → needs w f ≡ true → (s : ℕ) → s < count_of g → (env : Environment) → holds decls tokens g m f s env ≡ false
     none True n s lt env = absurd (cc)
@@ -118,18 +120,19 @@ module _ (g : Flow) (ok : IsSound g) where
     none (Exists x f) n s lt env =
         any_no (λ v. holds decls tokens g m f s (change env x v)) (values_of g) (λ v c. none f n s lt (change env x v))
 
--- in the graph of an item that lacks the word
+-- in the graph of an item that lacks the word, whatever is known of the types of the item's expressions
 
-pub holds_no : (w : List ℕ) (decls : List VarDecl) (tokens : List PatToken) (t : Tree) → node_count t < 2 ^ 32
+pub holds_no : (w : List ℕ) (decls : List VarDecl) (tokens : List PatToken) (t : Tree) (types : ItemTypes) → node_count t < 2 ^ 32
     → has_word w t ≡ false → (m : ℕ) → (f : Plain) → needs w f ≡ true → (s : ℕ) → s < count_of (graph_of t)
-    → (env : Environment) → holds decls tokens (graph_of t) m f s env ≡ false
-holds_no w decls tokens t few h m f n s lt env =
-    none (graph_of t) (graph_of-sound t few) w decls tokens (labels_lack w t h) m f n s lt env
+    → (env : Environment) → holds decls tokens (with_types (graph_of t) types) m f s env ≡ false
+holds_no w decls tokens t types few h m f n s lt env =
+    none (with_types (graph_of t) types) (typed-sound (graph_of t) types (graph_of-sound t few)) w decls tokens (labels_lack w t h) m f n s lt env
 
-pub Holds_no : (w : List ℕ) (decls : List VarDecl) (tokens : List PatToken) (t : Tree) → node_count t < 2 ^ 32
+pub Holds_no : (w : List ℕ) (decls : List VarDecl) (tokens : List PatToken) (t : Tree) (types : ItemTypes) → node_count t < 2 ^ 32
     → has_word w t ≡ false → (m : ℕ) → 0 < m → (f : Plain) → needs w f ≡ true → (s : ℕ) → s < count_of (graph_of t)
-    → (env : Environment) → Holds decls tokens (graph_of t) m f s env → ⊥
-Holds_no w decls tokens t few h m pos f n s lt env held =
-    not_both (holds decls tokens (graph_of t) m f s env)
-    ((holds_decides decls tokens (graph_of t) (graph_of-sound t few) m pos f s lt env).1 held)
-    (holds_no w decls tokens t few h m f n s lt env)
+    → (env : Environment) → Holds decls tokens (with_types (graph_of t) types) m f s env → ⊥
+Holds_no w decls tokens t types few h m pos f n s lt env held =
+    let g = with_types (graph_of t) types in
+    not_both (holds decls tokens g m f s env)
+    ((holds_decides decls tokens g (typed-sound (graph_of t) types (graph_of-sound t few)) m pos f s lt env).1 held)
+    (holds_no w decls tokens t types few h m f n s lt env)

@@ -11,6 +11,7 @@ use Rattle.c_terms.specs.declared.tree.Tree.{Tree, out-Tree}
 use Rattle.c_terms.specs.Lists.{is_punct, is_comma, comma, comma_at, members, members_from}
 use Rattle.c_terms.proofs.SameLemmas.{out-Leaf, out-Branch}
 use Rattle.c_terms.proofs.Induct.{Each, tree_cases}
+use Rattle.c_types.specs.Tables.{ItemTypes}
 use Rattle.smpl_terms.specs.Environments.{Environment}
 use Rattle.smpl_patch.specs.declared.pattern.VarDecl.{VarDecl}
 use Rattle.smpl_patch.specs.declared.pattern.PatToken.{PatToken}
@@ -79,57 +80,58 @@ module _ (w : List ℕ) where
   kid_of [] b h = absurd (cc)
   kid_of (u ∷ us) b h = kid_step b u us (comma u) (kid_of us) h
 
-module _ (decls : List VarDecl) (tokens : List PatToken) (env : Environment) (w : List ℕ) (l : Label) where
-  single_law : (c : Tree) (ms : List Member) → Law decls tokens env w c → single_fits (fits_tree decls tokens env c) ms ≡ true → spells w c ≡ true
+module _ (decls : List VarDecl) (tokens : List PatToken) (types : ItemTypes) (env : Environment) (w : List ℕ) (l : Label) where
+  single_law : (c : Tree) (ms : List Member) → Law decls tokens types env w c → single_fits (fits_tree decls tokens types env c) ms ≡ true → spells w c ≡ true
       → list_any (in_member w) ms ≡ true
   single_law c [] law h s = absurd (cc)
   single_law c (m ∷ []) law h s = or_left _ _ (law m.tree h s)
   single_law c (m ∷ n ∷ ms) law h s = absurd (cc)
 
-  member_law : (c : Tree) (ms : List Member) → Law decls tokens env w c
-      → cond (is_wild l (piece decls tokens env c).token) (run_fits decls tokens env l (piece decls tokens env c).token ms)
-      (single_fits (fits_tree decls tokens env c) ms) ≡ true
+  member_law : (c : Tree) (ms : List Member) → Law decls tokens types env w c
+      → cond (is_wild l (piece decls tokens types env c).token) (run_fits decls tokens env l (piece decls tokens types env c).token ms)
+      (single_fits (fits_tree decls tokens types env c) ms) ≡ true
       → spells w c ≡ true → list_any (in_member w) ms ≡ true
   member_law c ms law h s =
       single_law c ms law
-      (cond_false (is_wild l (piece decls tokens env c).token) _ _ (ap (is_wild l) (piece-token decls tokens env c) ∙ not_wild w l c s) h) s
+      (cond_false (is_wild l (piece decls tokens types env c).token) _ _ (ap (is_wild l) (piece-token decls tokens types env c) ∙ not_wild w l c s) h) s
 
   abbrev RunsLaw : List Tree → Type 0
-  RunsLaw cs = (before : Option Token) (ms : List Member) → runs_from decls tokens env l before (map (piece decls tokens env) cs) ms ≡ true
-      → any_spells decls tokens env w cs ≡ true → list_any (in_member w) ms ≡ true
+  RunsLaw cs = (before : Option Token) (ms : List Member) → runs_from decls tokens env l before (map (piece decls tokens types env) cs) ms ≡ true
+      → any_spells decls tokens types env w cs ≡ true → list_any (in_member w) ms ≡ true
 
-  runs_step : (c : Tree) (cs : List Tree) → Law decls tokens env w c → RunsLaw cs → (before : Option Token) (ms : List Member) (o : Option Token) → comma c ≡ o
+  runs_step : (c : Tree) (cs : List Tree) → Law decls tokens types env w c → RunsLaw cs → (before : Option Token) (ms : List Member) (o : Option Token)
+      → comma c ≡ o
       → elim o as (λ o. Bool) [
-        | None ↦ some_below (λ k. takes decls tokens env l before (piece decls tokens env c) (take k ms)
-            && runs_from decls tokens env l None (map (piece decls tokens env) cs) (drop k ms)) (suc (length ms))
-        | Some d ↦ comma_fits decls tokens env before [] && runs_from decls tokens env l (Some d) (map (piece decls tokens env) cs) ms
+        | None ↦ some_below (λ k. takes decls tokens env l before (piece decls tokens types env c) (take k ms)
+            && runs_from decls tokens env l None (map (piece decls tokens types env) cs) (drop k ms)) (suc (length ms))
+        | Some d ↦ comma_fits decls tokens env before [] && runs_from decls tokens env l (Some d) (map (piece decls tokens types env) cs) ms
       ] ≡ true
-      → (spells w c || any_spells decls tokens env w cs) ≡ true → list_any (in_member w) ms ≡ true
+      → (spells w c || any_spells decls tokens types env w cs) ≡ true → list_any (in_member w) ms ≡ true
   runs_step c cs law ih before ms None e h s =
       let r = below_elim _ (suc (length ms)) h in
       ⊎_elim
       (λ a. any_take (in_member w) ms r.0 (member_law c (take r.0 ms) law (and_right _ _ (and_left _ _ r.2)) a))
       (λ a. any_drop (in_member w) ms r.0 (ih None (drop r.0 ms) (and_right _ _ r.2) a))
-      (or_cases (spells w c) (any_spells decls tokens env w cs) s)
+      (or_cases (spells w c) (any_spells decls tokens types env w cs) s)
   runs_step c cs law ih before ms (Some d) e h s =
       ⊎_elim
       (λ a. absurd (no_comma w d c e a))
       (λ a. ih (Some d) ms (and_right _ _ h) a)
-      (or_cases (spells w c) (any_spells decls tokens env w cs) s)
+      (or_cases (spells w c) (any_spells decls tokens types env w cs) s)
 
-  runs_law : (cs : List Tree) → Each (Law decls tokens env w) cs → RunsLaw cs
+  runs_law : (cs : List Tree) → Each (Law decls tokens types env w) cs → RunsLaw cs
   runs_law [] e before ms h s = absurd (cc)
   runs_law (c ∷ cs) e before ms h s =
-      runs_step c cs e.0 (runs_law cs e.1) before ms (comma c) refl (sym (choice decls tokens l env before c cs ms (comma c) refl) ∙ h) s
+      runs_step c cs e.0 (runs_law cs e.1) before ms (comma c) refl (sym (choice decls tokens types l env before c cs ms (comma c) refl) ∙ h) s
 
-module _ (decls : List VarDecl) (tokens : List PatToken) (env : Environment) (w : List ℕ) where
-  list_law : ListLaw decls tokens env w
-  list_law l cs laws = tree_cases (Fit decls tokens env w (list_fits decls tokens env l) l cs)
-      (λ b h s. let f = sym (ap (kids_fit (list_fits decls tokens env l) l (map (piece decls tokens env) cs)) (out-Leaf b)) ∙ h in absurd (cc))
+module _ (decls : List VarDecl) (tokens : List PatToken) (types : ItemTypes) (env : Environment) (w : List ℕ) where
+  list_law : ListLaw decls tokens types env w
+  list_law l cs laws = tree_cases (Fit decls tokens types env w (list_fits decls tokens env l) l cs)
+      (λ b h s. let f = sym (ap (kids_fit (list_fits decls tokens env l) l (map (piece decls tokens types env) cs)) (out-Leaf b)) ∙ h in absurd (cc))
       (λ k us h s.
-      let f = sym (ap (kids_fit (list_fits decls tokens env l) l (map (piece decls tokens env) cs)) (out-Branch k us)) ∙ h in
-      word-kid w k us (kid_of w us None (runs_law decls tokens env w l cs laws None (members us) (and_right _ _ f) s)))
+      let f = sym (ap (kids_fit (list_fits decls tokens env l) l (map (piece decls tokens types env) cs)) (out-Branch k us)) ∙ h in
+      word-kid w k us (kid_of w us None (runs_law decls tokens types env w l cs laws None (members us) (and_right _ _ f) s)))
 
   -- if the form fits the tree, each word that it spells is one of the tree's tokens
-  pub fits_word : (form t : Tree) → fits_tree decls tokens env form t ≡ true → spells w form ≡ true → has_word w t ≡ true
-  fits_word form = fit_law decls tokens env w list_law form
+  pub fits_word : (form t : Tree) → fits_tree decls tokens types env form t ≡ true → spells w form ≡ true → has_word w t ≡ true
+  fits_word form = fit_law decls tokens types env w list_law form

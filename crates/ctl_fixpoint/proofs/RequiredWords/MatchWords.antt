@@ -9,6 +9,7 @@ use Rattle.c_terms.specs.Shapes.{is_expression_part}
 use Rattle.c_terms.proofs.Induct.{Each, tree_induction, tree_cases}
 use Rattle.c_terms.proofs.PlaceLaws.{parts-Leaf, parts-Branch}
 use Rattle.c_terms.proofs.SameLemmas.{out-Leaf, out-Branch}
+use Rattle.c_types.specs.Tables.{ItemTypes}
 use Rattle.smpl_terms.specs.Environments.{Environment}
 use Rattle.cfg_build.specs.declared.cfg_graph.label.NodeKind.{NodeKind}
 use Rattle.cfg_build.specs.declared.cfg_graph.label.NodeLabel.{NodeLabel}
@@ -82,12 +83,12 @@ module _ (w : List ℕ) where
   seat-word spot.Whole k t h = ⊎_elim (λ a. a) (λ b. not_both false b refl) (or_cases (has_word w t) false h)
   seat-word spot.Tail k t h = ⊎_elim (λ a. a) (λ b. not_both false b refl) (or_cases (has_word w t) false h)
 
-module _ (decls : List VarDecl) (tokens : List PatToken) (env : Environment) (w : List ℕ) where
-  pub match_word : (p : Pattern) (l : NodeLabel) → spelled w p ≡ true → matches decls tokens env p l ≡ true → has_word w l.tree ≡ true
+module _ (decls : List VarDecl) (tokens : List PatToken) (types : ItemTypes) (env : Environment) (w : List ℕ) where
+  pub match_word : (p : Pattern) (l : NodeLabel) → spelled w p ≡ true → matches decls tokens types env p l ≡ true → has_word w l.tree ≡ true
   match_word p l e h =
       let f = any_found
-      (λ f. list_any (λ (s : Place). fits_seat decls tokens env p (role_of l) f s.tree) (seats p.spot l.kind l.tree)) p.forms h in
+      (λ f. list_any (λ (s : Place). fits_seat decls tokens types env p (role_of l) f s.tree) (seats p.spot l.kind l.tree)) p.forms h in
       let g : held_spells w p.spot f.0 ≡ true = all_has (held_spells w p.spot) f.0 p.forms f.1 (and_right _ _ e) in
       seat-word w p.spot l.kind l.tree
-      (any_weaker (λ (s : Place). fits_seat decls tokens env p (role_of l) f.0 s.tree) (here w) (seats p.spot l.kind l.tree)
-      (λ s c q. held_has_word decls tokens env w p.spot l.kind f.0 s.tree (and_right _ _ q) g) f.2)
+      (any_weaker (λ (s : Place). fits_seat decls tokens types env p (role_of l) f.0 s.tree) (here w) (seats p.spot l.kind l.tree)
+      (λ s c q. held_has_word decls tokens types env w p.spot l.kind f.0 s.tree (and_right _ _ q) g) f.2)

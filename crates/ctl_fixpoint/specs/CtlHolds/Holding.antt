@@ -57,12 +57,12 @@ off_block g v s = at_node g s (λ l. not (is_brace is_close v l) && not (in_bloc
 module _ (decls : List VarDecl) (tokens : List PatToken) (g : Flow) where
   -- the pattern matches at node s
   abbrev pub atom_at : Pattern → ℕ → Environment → Bool
-  atom_at p s env = at_node g s (λ l. matches decls tokens env p l)
+  atom_at p s env = at_node g s (λ l. matches decls tokens g.types env p l)
 
   -- the pattern matches, the node is a brace of this kind, and b is the place of its `{`
   abbrev pub brace_at : (NodeKind → Bool) → Pattern → Var → ℕ → Environment → Bool
   brace_at is p b s env =
-      at_node g s (λ l. is l.kind && same (Place l.brace) (env b) && matches decls tokens env p l)
+      at_node g s (λ l. is l.kind && same (Place l.brace) (env b) && matches decls tokens g.types env p l)
 
   module _ (m : ℕ) where
     -- The formula holds at node s under the environment. An until considers walks of at most, or exactly, m nodes.

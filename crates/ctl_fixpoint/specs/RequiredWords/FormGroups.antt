@@ -3,6 +3,7 @@ use Rattle.std.specs.Prelude.{◌≡◌, ◌≤◌, ◌<◌, ℕ, Bool, true, fa
 use Rattle.std.specs.List.{list_any}
 use Rattle.c_terms.specs.declared.tree.Tree.{Tree}
 use Rattle.smpl_terms.specs.Environments.{Environment}
+use Rattle.c_types.specs.Tables.{ItemTypes}
 use Rattle.smpl_patch.specs.declared.pattern.VarDecl.{VarDecl}
 use Rattle.smpl_patch.specs.declared.pattern.PatToken.{PatToken}
 use Rattle.smpl_patch.specs.declared.pattern.Pattern.{Pattern}
@@ -38,7 +39,7 @@ abbrev pub AreFormGroups : Pattern → List FormGroup → Type 0
 AreFormGroups p [] = ⊤
 AreFormGroups p (l ∷ ls) = Covers p.spot p.forms 0 (l ∷ ls) (length p.forms)
 
-module _ (decls : List VarDecl) (tokens : List PatToken) (env : Environment) where
+module _ (decls : List VarDecl) (tokens : List PatToken) (types : ItemTypes) (env : Environment) where
   -- the form fits some subtree of the node
   abbrev pub fits_some : Pattern → NodeRole → Tree → Tree → Bool
-  fits_some p r t form = list_any (λ s. fits_seat decls tokens env p r form s.tree) (seats p.spot r.kind t)
+  fits_some p r t form = list_any (λ s. fits_seat decls tokens types env p r form s.tree) (seats p.spot r.kind t)

@@ -88,11 +88,13 @@ fn put_forms(
     requires within { end ≤ length target.now.p.now.forms }
     ensures meaning { IfOk result (λ _. (env : Environment) →
         (set_denotes entries.new.items env
-        || list_any (spec.fits_some target.now.context.now.decls.now target.now.context.now.tokens.now env target.now.p.now
-        target.now.role target.now.tree.now) (drop end target.now.p.now.forms))
+        || list_any (spec.fits_some target.now.context.now.decls.now target.now.context.now.tokens.now
+        target.now.context.now.types.now env target.now.p.now target.now.role target.now.tree.now)
+        (drop end target.now.p.now.forms))
         ≡ (set_denotes entries.old.items env
-        || list_any (spec.fits_some target.now.context.now.decls.now target.now.context.now.tokens.now env target.now.p.now
-        target.now.role target.now.tree.now) (drop first target.now.p.now.forms))) }
+        || list_any (spec.fits_some target.now.context.now.decls.now target.now.context.now.tokens.now
+        target.now.context.now.types.now env target.now.p.now target.now.role target.now.tree.now)
+        (drop first target.now.p.now.forms))) }
     ensures vars { IfOk result (λ _. (t : Var → Bool)
         → pattern_vars target.now.context.now.decls.now target.now.context.now.tokens.now t target.now.p.now ≡ true
         → set_vars t entries.old.items ≡ true → set_vars t entries.new.items ≡ true) }
@@ -123,11 +125,13 @@ fn put_run(
     requires run { spec.IsRun target.now.p.now.spot target.now.p.now.forms form_group.now.word first form_group.now.end }
     ensures meaning { IfOk result (λ _. (env : Environment) →
         (set_denotes entries.new.items env
-        || list_any (spec.fits_some target.now.context.now.decls.now target.now.context.now.tokens.now env target.now.p.now
-        target.now.role target.now.tree.now) (drop form_group.now.end target.now.p.now.forms))
+        || list_any (spec.fits_some target.now.context.now.decls.now target.now.context.now.tokens.now
+        target.now.context.now.types.now env target.now.p.now target.now.role target.now.tree.now)
+        (drop form_group.now.end target.now.p.now.forms))
         ≡ (set_denotes entries.old.items env
-        || list_any (spec.fits_some target.now.context.now.decls.now target.now.context.now.tokens.now env target.now.p.now
-        target.now.role target.now.tree.now) (drop first target.now.p.now.forms))) }
+        || list_any (spec.fits_some target.now.context.now.decls.now target.now.context.now.tokens.now
+        target.now.context.now.types.now env target.now.p.now target.now.role target.now.tree.now)
+        (drop first target.now.p.now.forms))) }
     ensures vars { IfOk result (λ _. (t : Var → Bool)
         → pattern_vars target.now.context.now.decls.now target.now.context.now.tokens.now t target.now.p.now ≡ true
         → set_vars t entries.old.items ≡ true → set_vars t entries.new.items ≡ true) }
@@ -147,8 +151,8 @@ fn solve_runs(
 ) -> Result<EnvSet, NoMemory>
     requires { spec.Covers target.now.p.now.spot target.now.p.now.forms 0 form_groups.now (length target.now.p.now.forms) }
     ensures meaning { IfOk result (λ r. (env : Environment) → set_denotes r env
-        ≡ list_any (spec.fits_some target.now.context.now.decls.now target.now.context.now.tokens.now env target.now.p.now
-        target.now.role target.now.tree.now) target.now.p.now.forms) }
+        ≡ list_any (spec.fits_some target.now.context.now.decls.now target.now.context.now.tokens.now
+        target.now.context.now.types.now env target.now.p.now target.now.role target.now.tree.now) target.now.p.now.forms) }
     ensures vars { IfOk result (λ r. (t : Var → Bool)
         → pattern_vars target.now.context.now.decls.now target.now.context.now.tokens.now t target.now.p.now ≡ true
         → set_vars t r ≡ true) }
@@ -177,7 +181,7 @@ pub fn solve_by<'x>(
 ) -> Result<EnvSet, NoMemory>
     requires { spec.AreFormGroups p.now form_groups.now }
     ensures meaning { IfOk result (λ r. (env : Environment) → set_denotes r env
-        ≡ matches context.now.decls.now context.now.tokens.now env p.now node.now) }
+        ≡ matches context.now.decls.now context.now.tokens.now context.now.types.now env p.now node.now) }
     ensures vars { IfOk result (λ r. (t : Var → Bool) → pattern_vars context.now.decls.now context.now.tokens.now t p.now
         ≡ true →
         set_vars t r ≡ true) }

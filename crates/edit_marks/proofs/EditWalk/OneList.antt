@@ -4,7 +4,7 @@ use Rattle.std.specs.List.{AllZip}
 use Rattle.c_lexer.specs.Pieces.{TextPiece}
 use Rattle.c_lexer.specs.Ids.{ids_of}
 use Rattle.cpp_lines.specs.declared.reading.Item.{Item}
-use Rattle.cfg_build.specs.declared.cfg_graph.label.NodeKind.{NodeKind}
+use Rattle.edit_marks.specs.declared.edit_walk.nodes.ItemNodes.{ItemNodes}
 use Rattle.smpl_patch.specs.declared.rule.Rule.{Rule}
 use Rattle.smpl_patch.specs.declared.witness.RuleWitness.{RuleWitness}
 use Rattle.smpl_patch.specs.Bodies.{body}
@@ -29,12 +29,12 @@ each_one R one (t ∷ ts) (a ∷ as') (b ∷ bs) h k =
     let rest : as' ≡ bs = each_one R one ts as' bs h.1 k.1 in
     λ i. first i ∷ rest i
 
-module _ (witnesses : List RuleWitness) (rule : Rule) (items : List Item) (kinds : List (List NodeKind)) (pieces : List TextPiece) where
-  one_at : (t : Touched) (a b : Edit) → IsEditAt rule items kinds pieces t a → IsEditAt rule items kinds pieces t b → a ≡ b
+module _ (witnesses : List RuleWitness) (rule : Rule) (items : List Item) (nodes : List ItemNodes) (pieces : List TextPiece) where
+  one_at : (t : Touched) (a b : Edit) → IsEditAt rule items nodes pieces t a → IsEditAt rule items nodes pieces t b → a ≡ b
   one_at t a b h k =
       one_edit rule.vars rule.tokens t.env (file_tokens pieces)
-      (pairs_at (patterns_body (body rule.body)) rule.vars rule.tokens items kinds (ids_of pieces) t) a b h k
+      (pairs_at (patterns_body (body rule.body)) rule.vars rule.tokens items nodes (ids_of pieces) t) a b h k
 
-  pub one_list : (a b : List Edit) → AreEdits witnesses rule items kinds pieces a → AreEdits witnesses rule items kinds pieces b → a ≡ b
+  pub one_list : (a b : List Edit) → AreEdits witnesses rule items nodes pieces a → AreEdits witnesses rule items nodes pieces b → a ≡ b
   one_list a b h k =
-      h.distinct ∙ ap once (each_one (IsEditAt rule items kinds pieces) one_at (touches witnesses) h.all k.all h.each k.each) ∙ sym k.distinct
+      h.distinct ∙ ap once (each_one (IsEditAt rule items nodes pieces) one_at (touches witnesses) h.all k.all h.each k.each) ∙ sym k.distinct

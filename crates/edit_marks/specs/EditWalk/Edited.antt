@@ -4,7 +4,7 @@ use Rattle.std.specs.List.{AllZip}
 use Rattle.c_lexer.specs.Pieces.{TextPiece}
 use Rattle.c_lexer.specs.Ids.{ids_of}
 use Rattle.cpp_lines.specs.declared.reading.Item.{Item}
-use Rattle.cfg_build.specs.declared.cfg_graph.label.NodeKind.{NodeKind}
+use Rattle.edit_marks.specs.declared.edit_walk.nodes.ItemNodes.{ItemNodes}
 use Rattle.smpl_patch.specs.declared.pattern.VarDecl.{VarDecl}
 use Rattle.smpl_patch.specs.declared.pattern.PatToken.{PatToken}
 use Rattle.smpl_patch.specs.declared.pattern.Pattern.{Pattern}
@@ -21,17 +21,17 @@ use Rattle.edit_marks.specs.Tokens.{file_tokens}
 use Rattle.edit_marks.specs.EditWalk.Named.{pairs_at}
 
 -- The edit of a touch: that of the alignment that the touch names, and the empty edit if there is none.
-abbrev pub IsEdit : List Pattern → List VarDecl → List PatToken → List Item → List (List NodeKind) → List ℕ → List FileToken → Touched → Edit → Type 0
-IsEdit patterns decls tokens items kinds ids files t edit =
-    EditOf decls tokens t.env files (pairs_at patterns decls tokens items kinds ids t) edit
+abbrev pub IsEdit : List Pattern → List VarDecl → List PatToken → List Item → List ItemNodes → List ℕ → List FileToken → Touched → Edit → Type 0
+IsEdit patterns decls tokens items nodes ids files t edit =
+    EditOf decls tokens t.env files (pairs_at patterns decls tokens items nodes ids t) edit
 
-abbrev pub IsEditAt : Rule → List Item → List (List NodeKind) → List TextPiece → Touched → Edit → Type 0
-IsEditAt rule items kinds pieces =
-    IsEdit (patterns_body (body rule.body)) rule.vars rule.tokens items kinds (ids_of pieces) (file_tokens pieces)
+abbrev pub IsEditAt : Rule → List Item → List ItemNodes → List TextPiece → Touched → Edit → Type 0
+IsEditAt rule items nodes pieces =
+    IsEdit (patterns_body (body rule.body)) rule.vars rule.tokens items nodes (ids_of pieces) (file_tokens pieces)
 
 -- the edits of all touches in order, each once
-pub record AreEdits (witnesses : List RuleWitness) (rule : Rule) (items : List Item) (kinds : List (List NodeKind))
+pub record AreEdits (witnesses : List RuleWitness) (rule : Rule) (items : List Item) (nodes : List ItemNodes)
     (pieces : List TextPiece) (edits : List Edit) : Type 0 where
   pub all : List Edit
-  pub each : AllZip (IsEditAt rule items kinds pieces) (touches witnesses) all
+  pub each : AllZip (IsEditAt rule items nodes pieces) (touches witnesses) all
   pub distinct : edits ≡ once all

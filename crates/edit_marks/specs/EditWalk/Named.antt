@@ -5,7 +5,6 @@ use Rattle.c_terms.specs.declared.tree.Tree.{Tree}
 use Rattle.c_terms.specs.Places.{subtree}
 use Rattle.cpp_lines.specs.declared.reading.Item.{Item}
 use Rattle.cpp_lines.specs.declared.reading.Item.TheVariants.{Parsed, Skipped}
-use Rattle.cfg_build.specs.declared.cfg_graph.label.NodeKind.{NodeKind}
 use Rattle.smpl_terms.specs.Environments.{total}
 use Rattle.smpl_patch.specs.declared.pattern.VarDecl.{VarDecl}
 use Rattle.smpl_patch.specs.declared.pattern.PatToken.{PatToken}
@@ -13,6 +12,8 @@ use Rattle.smpl_patch.specs.declared.pattern.Pattern.{Pattern}
 use Rattle.pat_match.specs.Roles.{role_at}
 use Rattle.pat_match.specs.declared.pat_pairs.pairs.AlignedToken.{AlignedToken}
 use Rattle.pat_match.specs.PatPairs.Pairs.{aligned_tokens}
+use Rattle.edit_marks.specs.declared.edit_walk.nodes.ItemNodes.{ItemNodes}
+use Rattle.edit_marks.specs.EditWalk.Nodes.{kind_at, types_at}
 use Rattle.edit_marks.specs.declared.removals.Aligned.{Aligned}
 use Rattle.edit_marks.specs.EditWalk.Touches.{Touched}
 use Rattle.edit_marks.specs.EditWalk.Keys.{number_of}
@@ -20,9 +21,6 @@ use Rattle.edit_marks.specs.EditWalk.Keys.{number_of}
 -- the pattern with a number, the first if several have it
 abbrev pub pattern_of : List Pattern → ℕ → Option Pattern
 pattern_of patterns atom = option_and_then (slice_get patterns) (number_of (map (λ p. p.atom) patterns) atom)
-
-abbrev pub kind_at : List (List NodeKind) → ℕ → ℕ → Option NodeKind
-kind_at kinds item node = option_and_then (λ own. slice_get own node) (slice_get kinds item)
 
 -- the subtree of an item that was read
 abbrev pub part_of : Item → List ℕ → Option Tree
@@ -40,14 +38,15 @@ abbrev pub pairs_of : List ℕ → Option (List AlignedToken) → List Aligned
 pairs_of ids None = []
 pairs_of ids (Some pairs) = flat_map (numbered ids) pairs
 
--- the context of a place: the patterns and variables of a rule, the items with the kinds of their nodes, the ids of the
+-- the context of a place: the patterns and variables of a rule, the items with what is needed of their graphs, the ids of the
 -- tokens
-module _ (patterns : List Pattern) (decls : List VarDecl) (tokens : List PatToken) (items : List Item) (kinds : List (List NodeKind)) (ids : List ℕ) where
+module _ (patterns : List Pattern) (decls : List VarDecl) (tokens : List PatToken) (items : List Item) (nodes : List ItemNodes) (ids : List ℕ) where
   -- the alignment at a touch; None if the touch names nothing, or if no form fits
   abbrev pub alignment : Touched → Option (List AlignedToken)
   alignment t =
-      option_and_then (λ p. option_and_then (λ k. option_and_then (λ tree. aligned_tokens decls tokens (total t.env) p (role_at k t.path) tree)
-      (tree_at items t.item t.path)) (kind_at kinds t.item t.node)) (pattern_of patterns t.atom)
+      option_and_then (λ p. option_and_then (λ k. option_and_then
+      (λ tree. aligned_tokens decls tokens (types_at nodes t.item) (total t.env) p (role_at k t.path) tree)
+      (tree_at items t.item t.path)) (kind_at nodes t.item t.node)) (pattern_of patterns t.atom)
 
   -- the pairs of numbers; the empty list if there is no alignment
   abbrev pub pairs_at : Touched → List Aligned

@@ -18,4 +18,4 @@ pub record IsWalkContext (s : WalkContext) : Type 0 where
 
 -- the edit of a touch here
 abbrev pub IsEditHere : WalkContext → Touched → Edit → Type 0
-IsEditHere s = IsEdit (patterns_at s) s.decls.now s.tokens.now s.items.now s.kinds.now s.ids.now s.files.now
+IsEditHere s = IsEdit (patterns_at s) s.decls.now s.tokens.now s.items.now s.nodes.now s.ids.now s.files.now

@@ -1,10 +1,9 @@
 // The context of the walk.
 use crate::FileTokens;
+use crate::edit_walk::nodes::ItemNodes;
 use crate::edit_walk::numbers::Numbers;
-use cfg_build::NodeKind;
 use cpp_lines::Item;
 use smpl_patch::{PatToken, Pattern, VarDecl};
-use sqlite_items::Items;
 
 /// What the walk needs of a rule and of a file.
 #[derive(Clone, Copy)]
@@ -16,8 +15,8 @@ pub struct WalkContext<'a> {
     /// The numbers of the patterns' atoms.
     pub atoms: &'a Numbers,
     pub items: &'a [Item],
-    /// The kinds of the nodes of each item.
-    pub kinds: &'a [Items<NodeKind>],
+    /// What edits need of the graph of each item.
+    pub nodes: &'a [ItemNodes<'a>],
     /// The tokens of the file.
     pub files: &'a FileTokens<'a>,
     /// The ids of the tokens of the file.

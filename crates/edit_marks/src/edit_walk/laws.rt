@@ -2,7 +2,7 @@
 ghost use Rattle.std.specs.Prelude.{◌≡◌, List};
 ghost use Rattle.c_lexer.specs.Pieces.{TextPiece};
 ghost use Rattle.cpp_lines.specs.declared.reading.Item.{Item};
-ghost use Rattle.cfg_build.specs.declared.cfg_graph.label.NodeKind.{NodeKind};
+ghost use Rattle.edit_marks.specs.declared.edit_walk.nodes.ItemNodes.{ItemNodes};
 ghost use Rattle.smpl_patch.specs.declared.rule.Rule.{Rule};
 ghost use Rattle.smpl_patch.specs.declared.witness.RuleWitness.{RuleWitness};
 ghost use Rattle.edit_marks.specs.declared.edit_conflict.edit.Edit.{Edit};
@@ -11,7 +11,7 @@ ghost use Rattle.edit_marks.specs.EditWalk.Edited.{AreEdits};
 /// Witnesses have only one list of edits.
 pub fn witnesses_have_one_list()
     ensures { (witnesses : List RuleWitness) (rule : Rule) (items : List Item)
-        (kinds : List (List NodeKind)) (pieces : List TextPiece) (a b : List Edit) →
-        AreEdits witnesses rule items kinds pieces a →
-        AreEdits witnesses rule items kinds pieces b → a ≡ b }
+        (nodes : List ItemNodes) (pieces : List TextPiece) (a b : List Edit) →
+        AreEdits witnesses rule items nodes pieces a →
+        AreEdits witnesses rule items nodes pieces b → a ≡ b }
 {}

@@ -3,21 +3,24 @@ ghost use Rattle.std.specs.Prelude.{◌≡◌, ◌≤◌, ◌^◌, IfOk, length,
 ghost use Rattle.std.specs.Option.{option_copied, option_map};
 ghost use Rattle.edit_marks.specs.EditWalk.Touches.{Touched};
 ghost use Rattle.edit_marks.specs.EditWalk.Named as spec;
+ghost use Rattle.edit_marks.specs.EditWalk.Nodes.{kind_at, types_at};
 ghost use Rattle.edit_marks.specs.EditWalk.WalkContexts.{IsWalkContext, IsEditHere, patterns_at};
 
 use crate::edit_conflict::Edit;
 use crate::edit_walk::aligned::numbered;
 use crate::edit_walk::context::WalkContext;
+use crate::edit_walk::nodes::ItemNodes;
 use crate::edit_walk::numbers::Numbers;
 use crate::{Aligned, edit_of};
 use c_terms::{NoMemory, Tree, TreePath, subtree};
+use c_types::KnownTypes;
 use cfg_build::NodeKind;
 use cpp_lines::Item;
 use pat_match::parts::role_at;
 use pat_match::{AlignedToken, PatternContext, aligned_tokens};
 use smpl_patch::Pattern;
 use smpl_terms::Env;
-use sqlite_items::{Items, at};
+use sqlite_items::at;
 use std::alloc::Global;
 
 fn pattern_of<'a>(patterns: &'a [&'a Pattern], atoms: &Numbers, atom: u32) -> Option<&'a Pattern>
@@ -28,11 +31,21 @@ fn pattern_of<'a>(patterns: &'a [&'a Pattern], atoms: &Numbers, atom: u32) -> Op
     Some(patterns[number])
 }
 
-fn kind_at(kinds: &[Items<NodeKind>], item: u32, node: u32) -> Option<NodeKind>
-    ensures { result ≡ spec.kind_at kinds.now item node }
+fn kind_at(nodes: &[ItemNodes<'_>], item: u32, node: u32) -> Option<NodeKind>
+    ensures { result ≡ kind_at nodes.now item node }
 {
-    let own = at(kinds, item as usize)?;
-    own.get(node as usize).copied()
+    let own = at(nodes, item as usize)?;
+    own.kinds.get(node as usize).copied()
+}
+
+/// Returns what is known of the types of an item's expressions.
+fn types_at<'g>(nodes: &[ItemNodes<'g>], item: u32) -> KnownTypes<'g>
+    ensures { result ≡ types_at nodes.now item }
+{
+    match at(nodes, item as usize) {
+        Some(own) => own.types.again(),
+        None => KnownTypes::none(),
+    }
 }
 
 fn tree_at<'a>(items: &'a [Item], item: u32, path: &TreePath) -> Option<&'a Tree>
@@ -57,22 +70,24 @@ fn alignment(
     requires { IsWalkContext context.now }
     ensures { IfOk result (λ found. option_map (λ f. f.items) found
         ≡ spec.alignment (patterns_at context.now) context.now.decls.now context.now.tokens.now context.now.items.now
-        context.now.kinds.now context.now.ids.now
+        context.now.nodes.now context.now.ids.now
         (record { item = item; node = node; atom = atom; path = path.now; env = env.now })) }
 {
     let Some(pattern) = pattern_of(context.patterns, context.atoms, atom) else {
         return Ok(None);
     };
-    let Some(kind) = kind_at(context.kinds, item, node) else {
+    let Some(kind) = kind_at(context.nodes, item, node) else {
         return Ok(None);
     };
     let Some(tree) = tree_at(context.items, item, path) else {
         return Ok(None);
     };
     let role = role_at(kind, path.steps());
+    let types = types_at(context.nodes, item);
     let pattern_context = PatternContext {
         decls: context.decls,
         tokens: context.tokens,
+        types: &types,
     };
     aligned_tokens(alloc, pattern, &pattern_context, role, tree, env)
 }

@@ -12,24 +12,23 @@ ghost use Rattle.edit_marks.specs.EditWalk.WalkContexts.{IsWalkContext, IsEditHe
 use crate::FileTokens;
 use crate::edit_conflict::{Edit, EditList};
 use crate::edit_walk::context::WalkContext;
+use crate::edit_walk::nodes::ItemNodes;
 use crate::edit_walk::numbers::Numbers;
 use crate::edit_walk::patterns::patterns_of;
 use crate::edit_walk::tokens::token_ids;
 use crate::edit_walk::touch::touch_edit;
 use c_lexer::Lexed;
 use c_terms::NoMemory;
-use cfg_build::NodeKind;
 use cpp_lines::Item;
 use smpl_patch::{Pattern, Rule, RuleWitness, Witness};
 use smpl_terms::{Env, Value, Var};
-use sqlite_items::Items;
 use std::alloc::Global;
 
 /// Returns the edits of the witnesses of a rule, one per touch, in the order of the touches, keeping the first of several
 /// equal ones.
 ///
-/// `items` are those of the text, and `kinds` has for each item the kinds of the nodes of its graph, none for an item
-/// without a tree. The precondition on plus code is tested by [`have_even_blocks`](crate::have_even_blocks). Linear in the
+/// `items` are those of the text, and `nodes` has for each item what is needed of its graph, none for an item without
+/// a tree. The precondition on plus code is tested by [`have_even_blocks`](crate::have_even_blocks). Linear in the
 /// text, in the body of the rule and in the forests, apart from the alignment and the edit of each touch, and from each
 /// bind, which copies the environment above it.
 pub fn edits(
@@ -37,16 +36,16 @@ pub fn edits(
     witnesses: &[RuleWitness],
     rule: &Rule,
     items: &[Item],
-    kinds: &[Items<NodeKind>],
+    nodes: &[ItemNodes<'_>],
     lexed: &Lexed,
 ) -> Result<EditList, NoMemory>
     requires even { HaveEvenBlocks rule.now.tokens }
-    ensures edits { IfOk result (AreEdits witnesses.now rule.now items.now kinds.now lexed.now) }
+    ensures edits { IfOk result (AreEdits witnesses.now rule.now items.now nodes.now lexed.now) }
     ensures fit { IfOk result (λ edits. All (FitsText (length (ids_of lexed.now))) edits) }
     ensures plain { IfOk result (λ edits. HaveSoundTouches rule.now (touches witnesses.now) →
         All (λ edit. ArePlainInserts edit.inserts) edits) }
 {
-    let list = edit_list(alloc, witnesses, rule, items, kinds, lexed)?;
+    let list = edit_list(alloc, witnesses, rule, items, nodes, lexed)?;
     Ok(list)
 }
 
@@ -55,13 +54,13 @@ fn edit_list(
     witnesses: &[RuleWitness],
     rule: &Rule,
     items: &[Item],
-    kinds: &[Items<NodeKind>],
+    nodes: &[ItemNodes<'_>],
     lexed: &Lexed,
 ) -> Result<EditList, NoMemory>
     requires { HaveEvenBlocks rule.now.tokens }
-    ensures { IfOk result (AreEdits witnesses.now rule.now items.now kinds.now lexed.now) }
+    ensures { IfOk result (AreEdits witnesses.now rule.now items.now nodes.now lexed.now) }
 {
-    let all = all_edits(alloc, witnesses, rule, items, kinds, lexed)?;
+    let all = all_edits(alloc, witnesses, rule, items, nodes, lexed)?;
     let list = EditList::of(alloc, all)?;
     Ok(list)
 }
@@ -72,11 +71,11 @@ fn all_edits(
     witnesses: &[RuleWitness],
     rule: &Rule,
     items: &[Item],
-    kinds: &[Items<NodeKind>],
+    nodes: &[ItemNodes<'_>],
     lexed: &Lexed,
 ) -> Result<Vec<Edit>, NoMemory>
     requires { HaveEvenBlocks rule.now.tokens }
-    ensures { IfOk result (λ all. AllZip (IsEditAt rule.now items.now kinds.now lexed.now)
+    ensures { IfOk result (λ all. AllZip (IsEditAt rule.now items.now nodes.now lexed.now)
         (touches witnesses.now) all.items) }
 {
     let mut all = Vec::new(alloc);
@@ -93,7 +92,7 @@ fn all_edits(
         patterns: &patterns,
         atoms: &atoms,
         items,
-        kinds,
+        nodes,
         files: &files,
         ids: &ids,
     };

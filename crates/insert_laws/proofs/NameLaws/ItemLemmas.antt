@@ -1,6 +1,13 @@
 -- The names of the items of declarations don't begin with `{`.
-use Rattle.std.proofs.Common.{◌≡◌, ℕ, Bool, true, false, ◌&&◌, refl, subst, List, [], ◌∷◌, ◌++◌, drop, Option, Some, None, if◌then◌else◌, codes, option_map}
-use Rattle.std.specs.Prelude.{option_and_then, not}
+use Rattle.std.proofs.Common.{◌≡◌, ℕ, zero, suc, inl, inr, slice_get, Bool, true, false, ◌&&◌, refl, subst, List, [], ◌∷◌, ◌++◌, drop, Option}
+use Rattle.std.proofs.Common.{Some, None, if◌then◌else◌, codes, option_map}
+use Rattle.std.specs.Prelude.{option_and_then, eqb, not}
+use Rattle.std.specs.List.{AllZip}
+use Rattle.c_terms.specs.declared.token.MetaKind.TheVariants as meta
+use Rattle.smpl_patch.specs.declared.wanted.NameWanted.{NameWanted}
+use Rattle.smpl_patch.specs.declared.wanted.Wanted.{Wanted}
+use Rattle.smpl_patch.specs.declared.pattern.VarKind.TheVariants.{Meta, Position}
+use Rattle.smpl_patch.specs.Wants.{anything}
 use Rattle.smpl_lexer.specs.declared.token.PatchToken.{PatchToken}
 use Rattle.smpl_lexer.specs.Tokens.{is_sign}
 use Rattle.smpl_meta.specs.declared.item.DeclKind.{DeclKind}
@@ -8,8 +15,13 @@ use Rattle.smpl_meta.specs.declared.item.DeclKind.TheVariants.{Var, Symbol}
 use Rattle.smpl_meta.specs.declared.item.Item.{Item}
 use Rattle.smpl_meta.specs.declared.item.Named.{Named}
 use Rattle.smpl_meta.specs.Forms.{is_wordish, put, parts, within_after, chunks, before_sign, plain_of, member_of, named_of, nots_of, all_of}
-use Rattle.smpl_meta.specs.Forms.{excepted_of, bare_item, item_of, is_listed, kind_of, list_kind_of, items_by, front_items, declared}
-use Rattle.smpl_meta.specs.Decls.{items_or_none, items_of}
+use Rattle.smpl_meta.specs.Forms.{excepted_of, bare_item, item_of, is_listed, kind_of, list_kind_of, items_by, kind_items}
+use Rattle.smpl_meta.specs.Forms.{plain_item, count_stars, pointer_to, pointer_item, expression_item}
+use Rattle.smpl_meta.specs.TypeNames.{with_type_names}
+use Rattle.smpl_meta.specs.Typed.{with_name, declarators, depth_after}
+use Rattle.smpl_meta.specs.Declarations.{IsDeclared, AreDeclared, items_or_none}
+use Rattle.smpl_meta.proofs.TypedItems.{wanted_item, Sources, declares}
+use Rattle.smpl_meta.specs.Decls.{items_of}
 use Rattle.sound_laws.proofs.SmplSound.FormLemmas.{then-made, map-made}
 use Rattle.ctl_fixpoint.proofs.CtlHolds.TestLemmas.{and_right}
 use Rattle.wit_forest.specs.WitTrees.Forest.{is_hidden_name}
@@ -100,18 +112,18 @@ HasOpen i = HasOpenName i.named
 excepted_open : (k : DeclKind) (ts : List PatchToken) (x : Named) (i : Item) → excepted_of k ts x ≡ Some i → HasOpenName x → HasOpen i
 excepted_open Symbol ts x i e h = absurd (cc)
 excepted_open (Var kind) ts x i e h =
-    let m = map-made (λ nots. record { kind = Var kind; named = x; nots = nots }) (nots_of kind ts) i e in
-    subst HasOpen (some_equal (record { kind = Var kind; named = x; nots = m.from }) i m.gives) h
+    let m = map-made (λ nots. record { kind = Var kind; named = x; nots = nots; wanted = anything }) (nots_of kind ts) i e in
+    subst HasOpen (some_equal (record { kind = Var kind; named = x; nots = m.from; wanted = anything }) i m.gives) h
 
 bare_open : (k : DeclKind) (ts : List PatchToken) (i : Item) → option_map (bare_item k) (named_of ts) ≡ Some i → AreOpen ts → HasOpen i
 bare_open k ts i e a =
     let m = map-made (bare_item k) (named_of ts) i e in
     subst HasOpen (some_equal (bare_item k m.from) i m.gives) (named_open ts m.from m.is a)
 
-item_open : (k : DeclKind) (ts : List PatchToken) (i : Item) → item_of k ts ≡ Some i → AreOpen ts → HasOpen i
-item_open k [] i e a = bare_open k [] i e a
-item_open k (x ∷ []) i e a = bare_open k (x ∷ []) i e a
-item_open k (x ∷ differs ∷ ts) i e a = by (is_sign (codes "!=") differs) e
+plain_item_open : (k : DeclKind) (ts : List PatchToken) (i : Item) → plain_item k ts ≡ Some i → AreOpen ts → HasOpen i
+plain_item_open k [] i e a = bare_open k [] i e a
+plain_item_open k (x ∷ []) i e a = bare_open k (x ∷ []) i e a
+plain_item_open k (x ∷ differs ∷ ts) i e a = by (is_sign (codes "!=") differs) e
   where
     by : (b : Bool) → (if b then option_and_then (excepted_of k ts) (plain_of x) else option_map (bare_item k) (named_of (x ∷ differs ∷ ts))) ≡ Some i
         → HasOpen i
@@ -119,6 +131,36 @@ item_open k (x ∷ differs ∷ ts) i e a = by (is_sign (codes "!=") differs) e
         let m = then-made (excepted_of k ts) (plain_of x) i e in
         excepted_open k ts m.from i m.gives (plain_open x m.from m.is a.0)
     by false e = bare_open k (x ∷ differs ∷ ts) i e a
+
+drops_open : (n : ℕ) (ts : List PatchToken) → AreOpen ts → AreOpen (drop n ts)
+drops_open zero ts a = a
+drops_open (suc n) [] a = tt
+drops_open (suc n) (t ∷ ts) a = drops_open n ts a.1
+
+pointer_open : (n : ℕ) (ts : List PatchToken) (i : Item) → pointer_item n ts ≡ Some i → AreOpen ts → HasOpen i
+pointer_open n [] i e a = absurd (cc)
+pointer_open n (x ∷ []) i e a =
+    let m = map-made (pointer_to n) (plain_of x) i e in
+    subst HasOpen (some_equal (pointer_to n m.from) i m.gives) (plain_open x m.from m.is a.0)
+pointer_open n (x ∷ y ∷ ts) i e a = absurd (cc)
+
+expression_open : (ts : List PatchToken) (i : Item) → expression_item ts ≡ Some i → AreOpen ts → HasOpen i
+expression_open ts i e a = by (eqb (count_stars ts) 0) e
+  where
+    by : (b : Bool) → (if b then plain_item (Var (Meta meta.Expr)) ts else pointer_item (count_stars ts) (drop (count_stars ts) ts)) ≡ Some i → HasOpen i
+    by true e = plain_item_open (Var (Meta meta.Expr)) ts i e a
+    by false e = pointer_open (count_stars ts) (drop (count_stars ts) ts) i e (drops_open (count_stars ts) ts a)
+
+item_open : (k : DeclKind) (ts : List PatchToken) (i : Item) → item_of k ts ≡ Some i → AreOpen ts → HasOpen i
+item_open Symbol ts i e a = plain_item_open Symbol ts i e a
+item_open (Var Position) ts i e a = plain_item_open (Var Position) ts i e a
+item_open (Var (Meta meta.Expr)) ts i e a = expression_open ts i e a
+item_open (Var (Meta meta.Ident)) ts i e a = plain_item_open (Var (Meta meta.Ident)) ts i e a
+item_open (Var (Meta meta.Constant)) ts i e a = plain_item_open (Var (Meta meta.Constant)) ts i e a
+item_open (Var (Meta meta.Typ)) ts i e a = plain_item_open (Var (Meta meta.Typ)) ts i e a
+item_open (Var (Meta meta.Stmt)) ts i e a = plain_item_open (Var (Meta meta.Stmt)) ts i e a
+item_open (Var (Meta meta.ExprList)) ts i e a = plain_item_open (Var (Meta meta.ExprList)) ts i e a
+item_open (Var (Meta meta.Params)) ts i e a = plain_item_open (Var (Meta meta.Params)) ts i e a
 
 abbrev pub HaveOpen : List Item → Type 0
 HaveOpen [] = Unit {0}
@@ -144,16 +186,58 @@ front_by : (t : PatchToken) (ts : List PatchToken) (items : List Item) (b : Bool
 front_by t ts items true e a = by_open (list_kind_of t) (drop 1 ts) items e (drop_open ts a)
 front_by t ts items false e a = by_open (kind_of t) ts items e a
 
-front_open : (ts : List PatchToken) (items : List Item) → front_items ts ≡ Some items → AreOpen ts → HaveOpen items
-front_open [] items e a = absurd (cc)
-front_open (t ∷ ts) items e a = front_by t ts items (is_listed ts) e a.1
+kind_open : (ts : List PatchToken) (items : List Item) → kind_items ts ≡ Some items → AreOpen ts → HaveOpen items
+kind_open [] items e a = absurd (cc)
+kind_open (t ∷ ts) items e a = front_by t ts items (is_listed ts) e a.1
 
-declared_open : (part : List PatchToken) (o : Option (List Item)) → declared part ≡ o → AreOpen part → HaveOpen (items_or_none o)
-declared_open part None e a = tt
-declared_open part (Some items) e a =
-    let m = then-made front_items (before_sign (codes ";") part) items e in
-    front_open m.from items m.gives (before_open (codes ";") part m.from m.is a)
+-- ---- declarators
 
-pub items_open : (ps : List (List PatchToken)) → AllOpen ps → HaveOpen (items_of ps)
-items_open [] a = tt
-items_open (p ∷ ps) a = have-append (items_or_none (declared p)) (items_of ps) (declared_open p (declared p) refl a.0) (items_open ps a.1)
+abbrev OpenOf : List PatchToken → Item → Type 0
+OpenOf ts i = AreOpen ts → HasOpen i
+
+open_at : (ts : List PatchToken) (k : ℕ) (t : PatchToken) → slice_get ts k ≡ Some t → AreOpen ts → IsOpen t
+open_at [] k t e a = absurd (cc)
+open_at (u ∷ ts) zero t e a = let same : u ≡ t = cc in subst IsOpen same a.0
+open_at (u ∷ ts) (suc k) t e a = open_at ts k t e a.1
+
+typed_open : (ts : List PatchToken) (k : ℕ) (t : PatchToken) (x : Named) (w : Wanted)
+    → slice_get ts k ≡ Some t → plain_of t ≡ Some x → OpenOf ts (wanted_item w x)
+typed_open ts k t x w e f a = plain_open t x f (open_at ts k t e a)
+
+untyped_open : (ts : List PatchToken) (name : NameWanted) (i : Item) → expression_item ts ≡ Some i → OpenOf ts (with_name name i)
+untyped_open ts wants i e a = expression_open ts i e a
+
+declarators_open : (depth : ℕ) (ts : List PatchToken) → AreOpen ts → AllOpen (declarators depth ts)
+declarators_open depth [] a = (tt, tt)
+declarators_open depth (t ∷ ts) a =
+    by (eqb depth 0 && is_sign (codes ",") t) (declarators_open depth ts a.1) (declarators_open (depth_after depth t) ts a.1)
+  where
+    by : (b : Bool) → AllOpen (declarators depth ts) → AllOpen (declarators (depth_after depth t) ts)
+        → AllOpen (if b then [] ∷ declarators depth ts else put t (declarators (depth_after depth t) ts))
+    by true r s = (tt, r)
+    by false r s = put_open t (declarators (depth_after depth t) ts) a.0 s
+
+zip_open : (ds : List (List PatchToken)) (items : List Item) → AllZip OpenOf ds items → AllOpen ds → HaveOpen items
+zip_open [] [] z a = tt
+zip_open [] (i ∷ is) z a = absurd z
+zip_open (d ∷ ds) [] z a = absurd z
+zip_open (d ∷ ds) (i ∷ is) z a = (z.0 a.0, zip_open ds is z.1 a.1)
+
+front_open : (ts : List PatchToken) (items : List Item) → Sources OpenOf typed_open untyped_open ts items → AreOpen ts → HaveOpen items
+front_open ts items (inl e) a = kind_open ts items e a
+front_open ts items (inr o) a =
+    zip_open (declarators 0 (drop o.skipped ts)) items o.each (declarators_open 0 (drop o.skipped ts) (drops_open o.skipped ts a))
+
+declared_open : (types : List (List ℕ)) (part : List PatchToken) (o : Option (List Item)) → IsDeclared types part o → AreOpen part → HaveOpen (items_or_none o)
+declared_open types part None e a = tt
+declared_open types part (Some items) e a =
+    let d = declares OpenOf typed_open untyped_open types part items e in
+    front_open d.front items d.from (before_open (codes ";") part d.front d.is a)
+
+pub items_open : (types : List (List ℕ)) (ps : List (List PatchToken)) (answers : List (Option (List Item))) → AreDeclared types ps answers
+    → AllOpen ps → HaveOpen (items_of answers)
+items_open types [] [] d a = tt
+items_open types [] (o ∷ more) d a = absurd d
+items_open types (p ∷ ps) [] d a = absurd d
+items_open types (p ∷ ps) (o ∷ more) d a = have-append (items_or_none o) (items_of more) (declared_open types p o d.0 a.0)
+    (items_open (with_type_names types (items_or_none o)) ps more d.1 a.1)

@@ -48,8 +48,8 @@ module _ (names : NameLaw) (words : KeywordLaw) where
   heads_open text earlier [] (h ∷ hs) are a = absurd are
   heads_open text earlier (r ∷ rs) [] are a = absurd are
   heads_open text earlier (r ∷ rs) (h ∷ hs) are a = (
-    subst (All IsOpenVar) (sym are.0.vars) (vars_open earlier (length earlier) (items_of (parts r.decls))
-        (items_open (parts r.decls) (parts_open r.decls a.0))),
+    subst (All IsOpenVar) (sym are.0.vars) (vars_open earlier (length earlier) (items_of are.0.answers)
+        (items_open [] (parts r.decls) are.0.answers are.0.read (parts_open r.decls a.0))),
     heads_open text (earlier ++ h ∷ []) rs hs are.1 a.1,
   )
 

@@ -14,6 +14,7 @@ use Rattle.c_terms.specs.Places.{Place as Seat}
 use Rattle.c_terms.proofs.Induct.{tree_cases}
 use Rattle.c_terms.proofs.SameLemmas.{out-Leaf, out-Branch}
 use Rattle.c_terms.proofs.TreeLemmas.{leaves-Branch}
+use Rattle.c_types.specs.Tables.{ItemTypes}
 use Rattle.smpl_terms.specs.declared.var.Var.{Var}
 use Rattle.smpl_terms.specs.declared.value.Value.TheVariants.{Place}
 use Rattle.smpl_terms.specs.Values.{same}
@@ -45,7 +46,7 @@ use Rattle.ctl_fixpoint.proofs.CtlHolds.AtomLemmas.{held_leaves, kept_sure, meta
 
 -- the other forms that match have each sure variable of the first as a sure one
 
-module _ (decls : List VarDecl) (tokens : List PatToken) (env : Environment) (x : Var) (off : IsNoPosition tokens x) where
+module _ (decls : List VarDecl) (tokens : List PatToken) (types : ItemTypes) (env : Environment) (x : Var) (off : IsNoPosition tokens x) where
   token_at : (q : Var → Bool) (a : Token) → token_passes decls tokens q a ≡ true → is_own decls tokens x a ≡ true → q x ≡ true
   token_at q a h e = ⊎_elim
       (λ m. meta_at decls q x a.kind a (and_left _ _ h) m)
@@ -68,28 +69,29 @@ module _ (decls : List VarDecl) (tokens : List PatToken) (env : Environment) (x 
   first_form s form (first ∷ fs) e h l = live_form s first form e h l
 
   seat_law : (p : Pattern) (r : NodeRole) (form t : Tree) → sure decls tokens p x ≡ true → SureStand decls tokens p
-      → fits_seat decls tokens env p r form t ≡ true → is_term (env x) ≡ true
+      → fits_seat decls tokens types env p r form t ≡ true → is_term (env x) ≡ true
   seat_law p r form t e stand h =
-      held_has_term decls tokens env x p.spot r.kind form t off (and_right _ _ h)
+      held_has_term decls tokens types env x p.spot r.kind form t off (and_right _ _ h)
       (first_form p.spot form p.forms e (stand x e) (and_left _ _ (and_left _ _ h)))
 
   pub match_law : (p : Pattern) (l : NodeLabel) → sure decls tokens p x ≡ true → SureStand decls tokens p
-      → matches decls tokens env p l ≡ true → is_term (env x) ≡ true
+      → matches decls tokens types env p l ≡ true → is_term (env x) ≡ true
   match_law p l e stand h =
       let f = any_found
-      (λ f. list_any (λ (s : Seat). fits_seat decls tokens env p (role_of l) f s.tree) (seats p.spot l.kind l.tree)) p.forms h in
-      let t = any_found (λ (s : Seat). fits_seat decls tokens env p (role_of l) f.0 s.tree) (seats p.spot l.kind l.tree) f.2 in
+      (λ f. list_any (λ (s : Seat). fits_seat decls tokens types env p (role_of l) f s.tree) (seats p.spot l.kind l.tree)) p.forms h in
+      let t = any_found (λ (s : Seat). fits_seat decls tokens types env p (role_of l) f.0 s.tree) (seats p.spot l.kind l.tree) f.2 in
       seat_law p (role_of l) f.0 t.0.tree e stand t.2
 
+module _ (decls : List VarDecl) (tokens : List PatToken) (env : Environment) (x : Var) (off : IsNoPosition tokens x) where
   pub atom_term : (g : Flow) (p : Pattern) (s : ℕ) → SureStand decls tokens p → sure decls tokens p x ≡ true
       → atom_at decls tokens g p s env ≡ true → is_term (env x) ≡ true
   atom_term g p s stand e h =
-      let l = label_of g s (λ l. matches decls tokens env p l) (slice_get g.labels s) refl h in
-      match_law p l.0 e stand l.2
+      let l = label_of g s (λ l. matches decls tokens g.types env p l) (slice_get g.labels s) refl h in
+      match_law decls tokens g.types env x off p l.0 e stand l.2
 
   pub brace_term : (g : Flow) (p : Pattern) (s : ℕ) → SureStand decls tokens p → (is : NodeKind → Bool) (b : Var) → sure decls tokens p x ≡ true
       → brace_at decls tokens g is p b s env ≡ true → is_term (env x) ≡ true
   brace_term g p s stand is b e h =
-      let l = label_of g s (λ l. is l.kind && same (Place l.brace) (env b) && matches decls tokens env p l)
+      let l = label_of g s (λ l. is l.kind && same (Place l.brace) (env b) && matches decls tokens g.types env p l)
       (slice_get g.labels s) refl h in
-      match_law p l.0 e stand (and_right _ _ l.2)
+      match_law decls tokens g.types env x off p l.0 e stand (and_right _ _ l.2)

@@ -10,6 +10,7 @@ use Rattle.c_terms.specs.declared.tree.Tree.TheVariants.{Leaf, Branch}
 use Rattle.c_terms.specs.Shapes.{shape_of, is_head_label, is_body, is_tail}
 use Rattle.c_terms.proofs.SameLemmas.{out-Leaf, out-Branch}
 use Rattle.c_terms.proofs.Induct.{tree_cases}
+use Rattle.c_types.specs.Tables.{ItemTypes}
 use Rattle.smpl_terms.specs.declared.var.Var.{Var}
 use Rattle.smpl_terms.specs.Environments.{Environment}
 use Rattle.cfg_build.specs.declared.cfg_graph.label.NodeKind.{NodeKind}
@@ -40,37 +41,37 @@ option_some : (q : Tree → Bool) (o : Option Tree) → option_fits q o ≡ true
 option_some q None h = absurd (cc)
 option_some q (Some u) h = (u, h)
 
-module _ (decls : List VarDecl) (tokens : List PatToken) (env : Environment) (x : Var) (off : IsNoPosition tokens x) where
+module _ (decls : List VarDecl) (tokens : List PatToken) (types : ItemTypes) (env : Environment) (x : Var) (off : IsNoPosition tokens x) where
   abbrev Given : Type 0
-  Given = HasTerm decls tokens env x off
+  Given = HasTerm decls tokens types env x off
 
   abbrev any : List Tree → Bool
-  any cs = any_sure decls tokens env x off cs
+  any cs = any_sure decls tokens types env x off cs
 
-  given : (form t : Tree) → fits_tree decls tokens env form t ≡ true → is_sure decls tokens x form ≡ true → Given
-  given form t h s = tree_law decls tokens env x off form t h s
+  given : (form t : Tree) → fits_tree decls tokens types env form t ≡ true → is_sure decls tokens x form ≡ true → Given
+  given form t h s = tree_law decls tokens types env x off form t h s
 
-  own_kids : (test : ℕ → Bool) (i : ℕ) (cs us : List Tree) → own_fit test i (map (piece decls tokens env) cs) us ≡ true
+  own_kids : (test : ℕ → Bool) (i : ℕ) (cs us : List Tree) → own_fit test i (map (piece decls tokens types env) cs) us ≡ true
       → any (kept test i cs) ≡ true → Given
   own_kids test i [] us h s = not_both false s refl
   own_kids test i (c ∷ cs) [] h s = not_both false h refl
   own_kids test i (c ∷ cs) (u ∷ us) h s = by (test i) (and_left _ _ h) (own_kids test (suc i) cs us (and_right _ _ h)) s
     where
-      by : (b : Bool) → (not b || fits_tree decls tokens env c u) ≡ true
+      by : (b : Bool) → (not b || fits_tree decls tokens types env c u) ≡ true
           → (any (kept test (suc i) cs) ≡ true → Given)
           → any (if b then c ∷ kept test (suc i) cs else kept test (suc i) cs) ≡ true → Given
       by true f more s = ⊎_elim (λ a. given c u f a) (λ a. more a) (or_cases (is_sure decls tokens x c) (any (kept test (suc i) cs)) s)
       by false f more s = more s
 
   abbrev OwnFit : NodeKind → Label → List Tree → Tree → Type 0
-  OwnFit k l cs t = kids_fit (own_fit (is_own k l (length cs)) 0) l (map (piece decls tokens env) cs) (out-Tree t) ≡ true
+  OwnFit k l cs t = kids_fit (own_fit (is_own k l (length cs)) 0) l (map (piece decls tokens types env) cs) (out-Tree t) ≡ true
       → any (kept (is_own k l (length cs)) 0 cs) ≡ true → Given
 
   own_law : (k : NodeKind) (l : Label) (cs : List Tree) (t : Tree) → OwnFit k l cs t
   own_law k l cs = tree_cases (OwnFit k l cs)
-      (λ b h s. not_both false (sym (ap (kids_fit (own_fit (is_own k l (length cs)) 0) l (map (piece decls tokens env) cs)) (out-Leaf b)) ∙ h) refl)
+      (λ b h s. not_both false (sym (ap (kids_fit (own_fit (is_own k l (length cs)) 0) l (map (piece decls tokens types env) cs)) (out-Leaf b)) ∙ h) refl)
       (λ j us h s.
-      let f = sym (ap (kids_fit (own_fit (is_own k l (length cs)) 0) l (map (piece decls tokens env) cs)) (out-Branch j us)) ∙ h in
+      let f = sym (ap (kids_fit (own_fit (is_own k l (length cs)) 0) l (map (piece decls tokens types env) cs)) (out-Branch j us)) ∙ h in
       own_kids (is_own k l (length cs)) 0 cs us (and_right _ _ f) s)
 
   -- what is sure in a branch that is no disjunction is so in a child
@@ -110,12 +111,12 @@ module _ (decls : List VarDecl) (tokens : List PatToken) (env : Environment) (x 
 
   abbrev OwnFits : NodeKind → Tree → Label → List Tree → Type 0
   OwnFits k t l cs = (not (is_disjunction (shape_of l))
-      && kids_fit (own_fit (is_own k l (length cs)) 0) l (map (piece decls tokens env) cs) (out-Tree t)) ≡ true
+      && kids_fit (own_fit (is_own k l (length cs)) 0) l (map (piece decls tokens types env) cs) (out-Tree t)) ≡ true
 
-  own_layer : (k : NodeKind) (l : Label) (cs : List Tree) (t : Tree) → own_fits decls tokens env k (out-Tree (Branch l cs)) t ≡ true → OwnFits k t l cs
-  own_layer k l cs t h = sym (ap (λ y. own_fits decls tokens env k y t) (out-Branch l cs)) ∙ h
+  own_layer : (k : NodeKind) (l : Label) (cs : List Tree) (t : Tree) → own_fits decls tokens types env k (out-Tree (Branch l cs)) t ≡ true → OwnFits k t l cs
+  own_layer k l cs t h = sym (ap (λ y. own_fits decls tokens types env k y t) (out-Branch l cs)) ∙ h
 
-  branch_law : (k : NodeKind) (l : Label) (cs : List Tree) (t : Tree) → branch_whole decls tokens env k (Branch l cs) t ≡ true
+  branch_law : (k : NodeKind) (l : Label) (cs : List Tree) (t : Tree) → branch_whole decls tokens types env k (Branch l cs) t ≡ true
       → held_whole (is_head_label l) l cs ≡ true → Given
   branch_law kind.Simple l cs t h s = given (Branch l cs) t h (branch_sure (is_head_label l) l cs refl s)
   branch_law kind.Head l cs t h s =
@@ -127,34 +128,34 @@ module _ (decls : List VarDecl) (tokens : List PatToken) (env : Environment) (x 
   branch_law _ l cs t h s = absurd (cc)
 
   token_law : (k : NodeKind) (form t : Tree) (p q r : Bool)
-      → (if p then option_fits (fits_tree decls tokens env form) (open_brace k t)
-      else if q then option_fits (fits_tree decls tokens env form) (close_brace k t)
-      else if r then is_statement_node k && fits_tree decls tokens env form t
-      else is_simple_node k && fits_tree decls tokens env form t) ≡ true
+      → (if p then option_fits (fits_tree decls tokens types env form) (open_brace k t)
+      else if q then option_fits (fits_tree decls tokens types env form) (close_brace k t)
+      else if r then is_statement_node k && fits_tree decls tokens types env form t
+      else is_simple_node k && fits_tree decls tokens types env form t) ≡ true
       → is_sure decls tokens x form ≡ true → Given
-  token_law k form t true q r h s = let u = option_some (fits_tree decls tokens env form) (open_brace k t) h in given form u.0 u.1 s
-  token_law k form t false true r h s = let u = option_some (fits_tree decls tokens env form) (close_brace k t) h in given form u.0 u.1 s
+  token_law k form t true q r h s = let u = option_some (fits_tree decls tokens types env form) (open_brace k t) h in given form u.0 u.1 s
+  token_law k form t false true r h s = let u = option_some (fits_tree decls tokens types env form) (close_brace k t) h in given form u.0 u.1 s
   token_law k form t false false true h s = given form t (and_right _ _ h) s
   token_law k form t false false false h s = given form t (and_right _ _ h) s
 
   abbrev At : Spot → NodeKind → Tree → Tree → Type 0
-  At s k t form = fits_at decls tokens env s k form t ≡ true → held_sure decls tokens s x form ≡ true → Given
+  At s k t form = fits_at decls tokens types env s k form t ≡ true → held_sure decls tokens s x form ≡ true → Given
 
   whole_law : (k : NodeKind) (t form : Tree) → At spot.Whole k t form
   whole_law k t = tree_cases (At spot.Whole k t)
       (λ a h s.
-      let f = sym (ap (λ y. whole_at decls tokens env k y (Leaf a) t) (out-Leaf a)) ∙ h in
+      let f = sym (ap (λ y. whole_at decls tokens types env k y (Leaf a) t) (out-Leaf a)) ∙ h in
       let g = sym (ap (λ y. any (held_at spot.Whole y (Leaf a))) (out-Leaf a)) ∙ s in
       token_law k (Leaf a) t (is_open_brace a) (is_close_brace a) (is_statement_token a.kind) f (or_nothing (is_sure decls tokens x (Leaf a)) g))
       (λ l cs h s.
-      let f = sym (ap (λ y. whole_at decls tokens env k y (Branch l cs) t) (out-Branch l cs)) ∙ h in
+      let f = sym (ap (λ y. whole_at decls tokens types env k y (Branch l cs) t) (out-Branch l cs)) ∙ h in
       let g = sym (ap (λ y. any (held_at spot.Whole y (Branch l cs))) (out-Branch l cs)) ∙ s in
       branch_law k l cs t f g)
 
   tail_law : (k : NodeKind) (t form : Tree) → At spot.Tail k t form
   tail_law k t = tree_cases (At spot.Tail k t)
-      (λ a h s. not_both false (sym (ap (λ y. own_fits decls tokens env kind.DoTail y t) (out-Leaf a))
-      ∙ and_right (is_tail_node k) (own_fits decls tokens env kind.DoTail (out-Tree (Leaf a)) t) h) refl)
+      (λ a h s. not_both false (sym (ap (λ y. own_fits decls tokens types env kind.DoTail y t) (out-Leaf a))
+      ∙ and_right (is_tail_node k) (own_fits decls tokens types env kind.DoTail (out-Tree (Leaf a)) t) h) refl)
       (λ l cs h s.
       let f = own_layer kind.DoTail l cs t (and_right _ _ h) in
       own_law kind.DoTail l cs t (and_right _ _ f) (sym (ap (λ y. any (held_at spot.Tail y (Branch l cs))) (out-Branch l cs)) ∙ s))
@@ -166,8 +167,8 @@ module _ (decls : List VarDecl) (tokens : List PatToken) (env : Environment) (x 
       (sym (ap (λ y. any (held_at spot.Inside y (Branch l cs))) (out-Branch l cs)) ∙ s)))
 
 -- where a form fits a subtree at a node, each sure variable of what is compared of it that is no position has a term
-pub held_has_term : (decls : List VarDecl) (tokens : List PatToken) (env : Environment) (x : Var) (s : Spot) (k : NodeKind) (form t : Tree)
-    → IsNoPosition tokens x → fits_at decls tokens env s k form t ≡ true → held_sure decls tokens s x form ≡ true → is_term (env x) ≡ true
-held_has_term decls tokens env x spot.Whole k form t off h s = whole_law decls tokens env x off k t form h s
-held_has_term decls tokens env x spot.Tail k form t off h s = tail_law decls tokens env x off k t form h s
-held_has_term decls tokens env x spot.Inside k form t off h s = inside_law decls tokens env x off k t form h s
+pub held_has_term : (decls : List VarDecl) (tokens : List PatToken) (types : ItemTypes) (env : Environment) (x : Var) (s : Spot) (k : NodeKind) (form t : Tree)
+    → IsNoPosition tokens x → fits_at decls tokens types env s k form t ≡ true → held_sure decls tokens s x form ≡ true → is_term (env x) ≡ true
+held_has_term decls tokens types env x spot.Whole k form t off h s = whole_law decls tokens types env x off k t form h s
+held_has_term decls tokens types env x spot.Tail k form t off h s = tail_law decls tokens types env x off k t form h s
+held_has_term decls tokens types env x spot.Inside k form t off h s = inside_law decls tokens types env x off k t form h s

@@ -10,7 +10,7 @@ use Rattle.c_terms.specs.Places.{Place}
 use Rattle.cpp_lines.specs.declared.reading.Item.{Item}
 use Rattle.cfg_build.specs.declared.cfg_graph.label.NodeLabel.{NodeLabel}
 use Rattle.cfg_build.specs.CfgGraph.Flow.{Flow, IsSound, count_of, succ_of, past_of, down_of}
-use Rattle.c_file.specs.Fit.{item_graph}
+use Rattle.rule_chain.specs.FileWitnesses.Seen.{seen_graph}
 use Rattle.smpl_terms.specs.declared.var.Var.{Var}
 use Rattle.smpl_terms.specs.declared.value.Value.{Value}
 use Rattle.smpl_terms.specs.Vars.{same_var, with_pair}
@@ -87,12 +87,12 @@ module _ (rule : Rule) (g : Flow) (p : Pattern) (s : ℕ) (env : Environment) wh
       (record { label = l; label_is = e; seat = at; seat_is = c; path_is = refl }) (All-nil (λ (a : Alignment). IsSeated g p s a.path))
 
   aligned : (l : NodeLabel) → slice_get g.labels s ≡ Some l → (r : NodeRole) (ss : List Place) → All (Contains (seats p.spot l.kind l.tree)) ss
-      → All (λ (a : Alignment). IsSeated g p s a.path) (aligned_at rule.vars rule.tokens env p r l.path ss)
+      → All (λ (a : Alignment). IsSeated g p s a.path) (aligned_at rule.vars rule.tokens g.types env p r l.path ss)
   aligned l e r [] h = All-nil (λ (a : Alignment). IsSeated g p s a.path)
   aligned l e r (at ∷ ss) h =
-      All-append (λ (a : Alignment). IsSeated g p s a.path) (put_form (l.path ++ at.path) (form_at rule.vars rule.tokens env p r at.tree))
-      (aligned_at rule.vars rule.tokens env p r l.path ss)
-      (formed l e at (All-head (Contains (seats p.spot l.kind l.tree)) at ss h) (form_at rule.vars rule.tokens env p r at.tree))
+      All-append (λ (a : Alignment). IsSeated g p s a.path) (put_form (l.path ++ at.path) (form_at rule.vars rule.tokens g.types env p r at.tree))
+      (aligned_at rule.vars rule.tokens g.types env p r l.path ss)
+      (formed l e at (All-head (Contains (seats p.spot l.kind l.tree)) at ss h) (form_at rule.vars rule.tokens g.types env p r at.tree))
       (aligned l e r ss (All-tail (Contains (seats p.spot l.kind l.tree)) at ss h))
 
   paths : (found : List Alignment) → All (λ (a : Alignment). IsSeated g p s a.path) found → All (IsSeated g p s) (map (λ a. a.path) found)
@@ -101,13 +101,13 @@ module _ (rule : Rule) (g : Flow) (p : Pattern) (s : ℕ) (env : Environment) wh
       All-cons (IsSeated g p s) a.path (map (λ a. a.path) found) (All-head (λ (a : Alignment). IsSeated g p s a.path) a found h)
       (paths found (All-tail (λ (a : Alignment). IsSeated g p s a.path) a found h))
 
-  at_label : (o : Option NodeLabel) → slice_get g.labels s ≡ o → All (IsSeated g p s) (paths_at rule.vars rule.tokens p env o)
+  at_label : (o : Option NodeLabel) → slice_get g.labels s ≡ o → All (IsSeated g p s) (paths_at rule.vars rule.tokens g.types p env o)
   at_label None e = All-nil (IsSeated g p s)
   at_label (Some l) e =
-      paths (aligned_at rule.vars rule.tokens env p (role_of l) l.path (seats p.spot l.kind l.tree))
+      paths (aligned_at rule.vars rule.tokens g.types env p (role_of l) l.path (seats p.spot l.kind l.tree))
       (aligned l e (role_of l) (seats p.spot l.kind l.tree) (All-contains_itself (seats p.spot l.kind l.tree)))
 
-  seated_by : (b : Bool) → All (IsSeated g p s) (if b then paths_at rule.vars rule.tokens p env (slice_get g.labels s) else [])
+  seated_by : (b : Bool) → All (IsSeated g p s) (if b then paths_at rule.vars rule.tokens g.types p env (slice_get g.labels s) else [])
   seated_by true = at_label (slice_get g.labels s) refl
   seated_by false = All-nil (IsSeated g p s)
 
@@ -124,7 +124,7 @@ module _ (rule : Rule) (metas : Var → Bool) (are : AreMetas metas rule) (items
 
   -- in each item with this graph, under each environment with these values, each touch of the tree is such
   abbrev pub Fine : (Var → Bool) → Witness → Type 0
-  Fine test w = (env : Pairs) → GivesTerms metas env → HasAll test env → (item : ℕ) → item_graph (slice_get items item) ≡ Some g
+  Fine test w = (env : Pairs) → GivesTerms metas env → HasAll test env → (item : ℕ) → seen_graph rule items item ≡ Some g
       → All Good (touches_in item env (bare_tree w))
 
   touch_fine : (test : Var → Bool) (p : Pattern) → Contains (patterns_body (body rule.body)) p

@@ -2,7 +2,8 @@
 -- only terms.
 use Rattle.std.proofs.Common.{◌≡◌, ℕ, suc, ◌+◌, ◌<◌, ◌^◌, Bool, true, false, cond, refl, sym, ap, ◌∙◌, subst, arith, ⊎_elim, List, [], ◌∷◌, map}
 use Rattle.std.proofs.Common.{Option, None, Some, Contains, slice_get}
-use Rattle.std.specs.Prelude.{All, unwrap_or}
+use Rattle.std.specs.Prelude.{All, unwrap_or, take}
+use Rattle.std.specs.Option.{option_map}
 use Rattle.std.specs.List.{filter, flat_map, filter_map, cons_option, list_all}
 use Rattle.std.proofs.lemmas.List.Elements.{All-nil, All-cons, All-head, All-tail, All-append, All-filter, filter_passes}
 use Rattle.c_terms.specs.declared.tree.Tree.{Tree}
@@ -15,7 +16,12 @@ use Rattle.cpp_lines.specs.declared.span.ItemSpan.{ItemSpan}
 use Rattle.cpp_lines.specs.Visible.{VisibleTokens}
 use Rattle.cfg_build.specs.CfgGraph.Flow.{Flow, IsSound, count_of}
 use Rattle.cfg_build.specs.Graphs.{node_count, graph_of}
+use Rattle.c_typing.specs.ItemTypes.{item_types}
+use Rattle.cfg_build.proofs.TypedLemmas.{typed-sound}
 use Rattle.c_file.specs.Fit.{item_graph}
+use Rattle.c_file.specs.ItemGraphs.Trees.{item_tree}
+use Rattle.c_file.specs.ItemGraphs.Typed.{scope_of, typed_tree, graph_in, graphs_from}
+use Rattle.smpl_patch.specs.Wants.{ask_types}
 use Rattle.c_file.specs.Reads.{IsReading, ReadsFrom, Reads, names_after}
 use Rattle.smpl_terms.specs.declared.var.Var.{Var}
 use Rattle.smpl_terms.specs.declared.value.Value.{Value}
@@ -47,6 +53,7 @@ use Rattle.rule_envs.specs.Inherited.{inherited_of}
 use Rattle.rule_envs.specs.Depends.{judge}
 use Rattle.rule_envs.specs.Shares.{takes_part, share, projections}
 use Rattle.rule_envs.specs.FileEnvs.{extended, replaced, becomes_by}
+use Rattle.rule_chain.specs.FileWitnesses.Seen.{seen_graph}
 use Rattle.rule_chain.specs.FileWitnesses.Found.{witnesses_in, found_from, found_under, brings}
 use Rattle.rule_chain.specs.RuleMatches.Matching.{rule_found, file_envs_after}
 use Rattle.rule_chain.proofs.RuleMatches.MatchingLemmas.{are_new}
@@ -144,7 +151,7 @@ module _ (pattern_law : PatternLaw) (cover_law : CoverLaw) (block_law : BlockLaw
 
   -- ---- witnesses in one item
 
-  module _ (g : Flow) (ok : IsSound g) (item : ℕ) (is : item_graph (slice_get items item) ≡ Some g) where
+  module _ (g : Flow) (ok : IsSound g) (item : ℕ) (is : seen_graph rule items item ≡ Some g) where
     abbrev FineTree : Witness → Type 0
     FineTree t = Fine rule metas are items g (is_free rule) t
 
@@ -214,19 +221,34 @@ module _ (pattern_law : PatternLaw) (cover_law : CoverLaw) (block_law : BlockLaw
         (flat_each (λ n. n < count_of g) IsFound (λ s. witnesses_at rule.vars rule.tokens g (formula_of rule) rule.exports number item s env)
         (at_node env h) (numbers (count_of g)) (numbers_below (count_of g)))
 
-  in_item : (item : Item) (at : ℕ) → slice_get items at ≡ Some item → HasGraph item → (env : Pairs) → IsShared env
-      → All IsLeft (map bare_witness (witnesses_in number rule at (item_graph (Some item)) env))
-  in_item (Parsed t) at e ok env h = in_graph (graph_of t) ok at (ap item_graph e) env h
-  in_item (Skipped span why) at e ok env h = All-nil IsLeft
+  -- in the graph of an item as the rule sees it
+  in_seen : (at : ℕ) (typed : Bool) → ask_types rule.vars ≡ typed → (item : Item) → slice_get items at ≡ Some item → HasGraph item → (env : Pairs)
+      → IsShared env → All IsLeft (map bare_witness (witnesses_in number rule at (graph_in typed items at) env))
+  in_seen at true asks (Parsed t) e ok env h =
+      let scope = scope_of (take at items) in
+      let is : graph_in true items at ≡ Some (typed_tree scope t) = ap (λ (o : Option Item). option_map (typed_tree scope) (item_tree o)) e in
+      subst (λ (o : Option Flow). All IsLeft (map bare_witness (witnesses_in number rule at o env))) (sym is)
+      (in_graph (typed_tree scope t) (typed-sound (graph_of t) (item_types scope t) ok) at (ap (λ (b : Bool). graph_in b items at) asks ∙ is) env h)
+  in_seen at false asks (Parsed t) e ok env h =
+      let is : graph_in false items at ≡ Some (graph_of t) = ap item_graph e in
+      subst (λ (o : Option Flow). All IsLeft (map bare_witness (witnesses_in number rule at o env))) (sym is)
+      (in_graph (graph_of t) ok at (ap (λ (b : Bool). graph_in b items at) asks ∙ is) env h)
+  in_seen at true asks (Skipped span why) e ok env h =
+      let scope = scope_of (take at items) in
+      subst (λ (o : Option Item). All IsLeft (map bare_witness (witnesses_in number rule at (option_map (typed_tree scope) (item_tree o)) env))) (sym e)
+      (All-nil IsLeft)
+  in_seen at false asks (Skipped span why) e ok env h =
+      subst (λ (o : Option Item). All IsLeft (map bare_witness (witnesses_in number rule at (item_graph o) env))) (sym e) (All-nil IsLeft)
 
   in_items : (at : ℕ) (more : List Item) → ((k : ℕ) → slice_get items (at + k) ≡ slice_get more k) → All HasGraph more → (env : Pairs)
-      → IsShared env → All IsLeft (found_from number rule at more env)
+      → IsShared env → All IsLeft (found_from number rule at (graphs_from (ask_types rule.vars) items at more) env)
   in_items at [] e ok env h = All-nil IsLeft
   in_items at (item ∷ more) e ok env h =
       let here : at ≡ at + 0 = omega arith in
       let next : (k : ℕ) → suc at + k ≡ at + suc k = λ k. omega arith in
-      All-append IsLeft (map bare_witness (witnesses_in number rule at (item_graph (Some item)) env)) (found_from number rule (suc at) more env)
-      (in_item item at (ap (slice_get items) here ∙ e 0) (All-head HasGraph item more ok) env h)
+      All-append IsLeft (map bare_witness (witnesses_in number rule at (seen_graph rule items at) env))
+      (found_from number rule (suc at) (graphs_from (ask_types rule.vars) items (suc at) more) env)
+      (in_seen at (ask_types rule.vars) refl item (ap (slice_get items) here ∙ e 0) (All-head HasGraph item more ok) env h)
       (in_items (suc at) more (λ k. ap (slice_get items) (next k) ∙ e (suc k)) (All-tail HasGraph item more ok) env h)
 
   module _ (ok : All HasGraph items) where

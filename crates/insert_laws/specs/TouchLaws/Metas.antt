@@ -5,7 +5,6 @@ use Rattle.c_terms.specs.Places.{Place}
 use Rattle.cpp_lines.specs.declared.reading.Item.{Item}
 use Rattle.cfg_build.specs.declared.cfg_graph.label.NodeLabel.{NodeLabel}
 use Rattle.cfg_build.specs.CfgGraph.Flow.{Flow}
-use Rattle.c_file.specs.Fit.{item_graph}
 use Rattle.smpl_terms.specs.declared.var.Var.{Var}
 use Rattle.smpl_terms.specs.declared.value.Value.{Value}
 use Rattle.smpl_terms.specs.declared.value.Value.TheVariants.{Term}
@@ -21,6 +20,7 @@ use Rattle.wit_forest.specs.WitTrees.Forest.{is_hidden}
 use Rattle.env_parts.specs.Parts.{Pairs}
 use Rattle.rule_envs.specs.declared.file_env.FileEnv.{FileEnv}
 use Rattle.edit_marks.specs.EditWalk.Touches.{Touched}
+use Rattle.rule_chain.specs.FileWitnesses.Seen.{seen_graph}
 use Rattle.insert_laws.specs.TermLaws.Terms.{is_term, IsNoPosition}
 
 -- if the environment has a value for a variable that passes, the value is a term
@@ -35,10 +35,10 @@ pub record AreMetas (metas : Var → Bool) (rule : Rule) : Type 0 where
   pub no_positions : (x : Var) → metas x ≡ true → IsNoPosition rule.tokens x
   pub not_hidden : (x : Var) → metas x ≡ true → is_hidden x ≡ false
 
--- the touch is of a node of its item's graph, and its path leads to a subtree with which the pattern is compared there
-pub record StandsAt (items : List Item) (p : Pattern) (t : Touched) : Type 0 where
+-- the touch is of a node of its item's graph as the rule sees it, and its path leads to a subtree with which the pattern is compared there
+pub record StandsAt (rule : Rule) (items : List Item) (p : Pattern) (t : Touched) : Type 0 where
   pub graph : Flow
-  pub graph_is : item_graph (slice_get items t.item) ≡ Some graph
+  pub graph_is : seen_graph rule items t.item ≡ Some graph
   pub label : NodeLabel
   pub label_is : slice_get graph.labels t.node ≡ Some label
   pub seat : Place
@@ -51,6 +51,6 @@ pub record ShowsTerms (metas : Var → Bool) (rule : Rule) (items : List Item) (
   pub pattern : Pattern
   pub among : Contains (patterns_body (body rule.body)) pattern
   pub atom : pattern.atom ≡ t.atom
-  pub stands : StandsAt items pattern t
+  pub stands : StandsAt rule items pattern t
   pub each : (x : Var) → used rule.vars rule.tokens pattern x ≡ true → metas x ≡ true → is_declared rule.vars x ≡ true
       → (u : Tree) × (value_in t.env x ≡ Some (Term u))

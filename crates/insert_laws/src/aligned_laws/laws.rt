@@ -2,6 +2,7 @@
 ghost use Rattle.std.specs.Prelude.{◌≡◌, ℕ, Bool, List, All, Some, true, false, slice_get};
 ghost use Rattle.c_terms.specs.declared.token.Token.{Token};
 ghost use Rattle.c_terms.specs.declared.tree.Tree.{Tree};
+ghost use Rattle.c_types.specs.Tables.{ItemTypes};
 ghost use Rattle.cfg_build.specs.declared.cfg_graph.label.NodeKind.{NodeKind as Kind};
 ghost use Rattle.cfg_build.specs.declared.cfg_graph.label.NodeKind.TheVariants as kind;
 ghost use Rattle.cfg_build.specs.declared.cfg_graph.label.NodeLabel.{NodeLabel as Label};
@@ -20,9 +21,9 @@ ghost use Rattle.insert_laws.specs.AlignedLaws.Compared.{compared, IsCompared, i
 /// part of the form passes it, for any test. The premise is that a tree that a simple node holds as a whole has no bodies.
 /// Does nothing.
 pub fn aligned_tokens_are_compared()
-    ensures { (decls : List VarDecl) (tokens : List PatToken) (env : Environment) (q : Token → Bool) (s : Spot) (k : Kind)
-        (form t : Tree) → HasNoBodies s k t → fits_at decls tokens env s k form t ≡ true →
-        All (IsCompared q s form) (alignment_at decls tokens env s k form t) }
+    ensures { (decls : List VarDecl) (tokens : List PatToken) (types : ItemTypes) (env : Environment) (q : Token → Bool)
+        (s : Spot) (k : Kind) (form t : Tree) → HasNoBodies s k t → fits_at decls tokens types env s k form t ≡ true →
+        All (IsCompared q s form) (alignment_at decls tokens types env s k form t) }
 {}
 
 /// In the graph of an item the tree of a simple node has no bodies. Does nothing.

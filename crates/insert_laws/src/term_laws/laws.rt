@@ -1,6 +1,7 @@
 // Laws of the values of metavariables. The functions do nothing.
 ghost use Rattle.std.specs.Prelude.{◌≡◌, ℕ, ◌<◌, List, true, false};
 ghost use Rattle.c_terms.specs.declared.tree.Tree.{Tree};
+ghost use Rattle.c_types.specs.Tables.{ItemTypes};
 ghost use Rattle.cfg_build.specs.declared.cfg_graph.label.NodeKind.{NodeKind};
 ghost use Rattle.cfg_build.specs.CfgGraph.Flow.{Flow, IsSound, count_of};
 ghost use Rattle.smpl_terms.specs.declared.var.Var.{Var};
@@ -19,8 +20,8 @@ ghost use Rattle.insert_laws.specs.TermLaws.Terms.{is_term, IsNoPosition, HidesB
 /// If a form fits a subtree, each sure variable of the compared part of the form has a term, unless it is a position at a
 /// token. Does nothing.
 pub fn metavariables_have_terms()
-    ensures { (decls : List VarDecl) (tokens : List PatToken) (env : Environment) (x : Var) (s : Spot) (k : NodeKind)
-        (form t : Tree) → IsNoPosition tokens x → fits_at decls tokens env s k form t ≡ true →
+    ensures { (decls : List VarDecl) (tokens : List PatToken) (types : ItemTypes) (env : Environment) (x : Var) (s : Spot)
+        (k : NodeKind) (form t : Tree) → IsNoPosition tokens x → fits_at decls tokens types env s k form t ≡ true →
         held_sure decls tokens s x form ≡ true → is_term (env x) ≡ true }
 {}
 

@@ -4,6 +4,7 @@ use Rattle.c_terms.specs.declared.token.Token.{Token}
 use Rattle.c_terms.specs.declared.label.Label.{Label}
 use Rattle.c_terms.specs.declared.list.Member.{Member}
 use Rattle.c_terms.specs.declared.tree.Tree.{Tree}
+use Rattle.c_types.specs.Tables.{ItemTypes}
 use Rattle.smpl_patch.specs.declared.pattern.VarDecl.{VarDecl}
 use Rattle.smpl_patch.specs.declared.pattern.PatToken.{PatToken}
 use Rattle.smpl_patch.specs.declared.pattern.Pattern.{Pattern}
@@ -26,12 +27,12 @@ aligned_token p = record { pattern = p.0.id; files = ids_of p.1 }
 abbrev pub numbers : List Pair → List AlignedToken
 numbers = map aligned_token
 
-module _ (decls : List VarDecl) (tokens : List PatToken) (env : Environment) where
+module _ (decls : List VarDecl) (tokens : List PatToken) (types : ItemTypes) (env : Environment) where
   -- what is aligned by the first of these forms that fits the subtree
   abbrev pub first_aligned : Pattern → NodeRole → Tree → List Tree → Option (List AlignedToken)
   first_aligned p r t [] = None
   first_aligned p r t (f ∷ fs) =
-      cond (fits_seat decls tokens env p r f t) (Some (numbers (alignment_at decls tokens env p.spot r.kind f t)))
+      cond (fits_seat decls tokens types env p r f t) (Some (numbers (alignment_at decls tokens types env p.spot r.kind f t)))
       (first_aligned p r t fs)
 
   -- The tokens that are aligned if the pattern matches the subtree at a node of this role: those of its first form that
@@ -43,19 +44,19 @@ module _ (decls : List VarDecl) (tokens : List PatToken) (env : Environment) whe
 
   -- the child takes this many of the members, and the children after it take the others
   abbrev pub takes_first : Label → List Tree → ℕ → Tree → List Member → ℕ → Bool
-  takes_first l fs i f ms k = takes decls tokens env l (comma_before fs i) (piece decls tokens env f) (take k ms)
-      && fits_from decls tokens l (comma_before fs (suc i)) (drop (suc i) fs) (drop k ms) env
+  takes_first l fs i f ms k = takes decls tokens env l (comma_before fs i) (piece decls tokens types env f) (take k ms)
+      && fits_from decls tokens types l (comma_before fs (suc i)) (drop (suc i) fs) (drop k ms) env
 
   -- what the rest of a list is aligned with in its leftmost alignment
   abbrev pub left_pairs : Label → Option Token → List Tree → List Member → List Pair
-  left_pairs l before fs ms = runs_pairs decls tokens env l before (map (piece decls tokens env) fs) ms
-      (leftmost decls tokens env l before (map (piece decls tokens env) fs) ms)
+  left_pairs l before fs ms = runs_pairs decls tokens env l before (map (piece decls tokens types env) fs) ms
+      (leftmost decls tokens env l before (map (piece decls tokens types env) fs) ms)
 
 -- From one child of a list to the next: the rest fits after this many members, and what is found, joined with what the rest
 -- is aligned with, stays the same.
-pub record IsNext (decls : List VarDecl) (tokens : List PatToken) (env : Environment) (l : Label) (fs : List Tree) (i : ℕ)
+pub record IsNext (decls : List VarDecl) (tokens : List PatToken) (types : ItemTypes) (env : Environment) (l : Label) (fs : List Tree) (i : ℕ)
     (ms : List Member) (taken next : ℕ) (old new : List AlignedToken) : Type 0 where
   pub within : next ≤ length ms
-  pub rest : fits_from decls tokens l (comma_before fs (suc i)) (drop (suc i) fs) (drop next ms) env ≡ true
-  pub found : old ++ numbers (left_pairs decls tokens env l (comma_before fs i) (drop i fs) (drop taken ms))
-      ≡ new ++ numbers (left_pairs decls tokens env l (comma_before fs (suc i)) (drop (suc i) fs) (drop next ms))
+  pub rest : fits_from decls tokens types l (comma_before fs (suc i)) (drop (suc i) fs) (drop next ms) env ≡ true
+  pub found : old ++ numbers (left_pairs decls tokens types env l (comma_before fs i) (drop i fs) (drop taken ms))
+      ≡ new ++ numbers (left_pairs decls tokens types env l (comma_before fs (suc i)) (drop (suc i) fs) (drop next ms))

@@ -59,7 +59,8 @@ fn takes_run(
     requires wild { is_wild child.now.label (leaf_of (out-Tree child.now.form.now)) ≡ true }
     ensures { IfOk result (λ r. r ≡ takes bound.now.context.now.decls.now bound.now.context.now.tokens.now
         (total bound.now.env.now) child.now.label (comma_before child.now.forms.now child.now.i)
-        (piece bound.now.context.now.decls.now bound.now.context.now.tokens.now (total bound.now.env.now) child.now.form.now)
+        (piece bound.now.context.now.decls.now bound.now.context.now.tokens.now bound.now.context.now.types.now (total
+        bound.now.env.now) child.now.form.now)
         run.now) }
 {
     let set = fit_wild(alloc, bound.context, child, run)?;
@@ -77,7 +78,8 @@ fn takes_if(
     requires wild { is_wild child.now.label (leaf_of (out-Tree child.now.form.now)) ≡ true }
     ensures { IfOk result (λ r. r ≡ (takes bound.now.context.now.decls.now bound.now.context.now.tokens.now
         (total bound.now.env.now) child.now.label (comma_before child.now.forms.now child.now.i)
-        (piece bound.now.context.now.decls.now bound.now.context.now.tokens.now (total bound.now.env.now) child.now.form.now)
+        (piece bound.now.context.now.decls.now bound.now.context.now.tokens.now bound.now.context.now.types.now (total
+        bound.now.env.now) child.now.form.now)
         run.now && rest_fits)) }
 {
     if rest_fits {
@@ -99,6 +101,7 @@ fn fewest(
     requires child { child.now.form.now ≡ slice_index_or child.now.forms.now child.now.i child.now.form.now }
     requires wild { is_wild child.now.label (leaf_of (out-Tree child.now.form.now)) ≡ true }
     ensures value { IfOk result (λ r. r ≡ least (takes_first bound.now.context.now.decls.now bound.now.context.now.tokens.now
+        bound.now.context.now.types.now
         (total bound.now.env.now) child.now.label child.now.forms.now child.now.i child.now.form.now
         members.now) (suc (length members.now))) }
     ensures within { IfOk result (λ r. r ≤ length members.now) }
@@ -135,10 +138,12 @@ pub fn put_wild(
     requires child { child.now.form.now ≡ slice_index_or child.now.forms.now child.now.i child.now.form.now }
     requires wild { is_wild child.now.label (leaf_of (out-Tree child.now.form.now)) ≡ true }
     requires left { taken ≤ length members.now }
-    requires fits { fits_from bound.now.context.now.decls.now bound.now.context.now.tokens.now child.now.label
+    requires fits { fits_from bound.now.context.now.decls.now bound.now.context.now.tokens.now
+        bound.now.context.now.types.now child.now.label
         (comma_before child.now.forms.now child.now.i) (drop child.now.i child.now.forms.now)
         (drop taken members.now) (total bound.now.env.now) ≡ true }
     ensures { IfOk result (λ next. IsNext bound.now.context.now.decls.now bound.now.context.now.tokens.now
+        bound.now.context.now.types.now
         (total bound.now.env.now) child.now.label child.now.forms.now child.now.i members.now taken next
         found.old.items found.new.items) }
 {

@@ -23,9 +23,11 @@ fn put_own_child(
     tree: &Tree,
 ) -> Result<(), NoMemory>
     requires fits { (not own || fits_tree bound.now.context.now.decls.now bound.now.context.now.tokens.now
+        bound.now.context.now.types.now
         (total bound.now.env.now) form.now tree.now) ≡ true }
     ensures { OnOk result (found.new.items ≡ found.old.items
         ++ numbers (cond own (alignment bound.now.context.now.decls.now bound.now.context.now.tokens.now
+        bound.now.context.now.types.now
         (total bound.now.env.now) form.now tree.now) [])) }
 {
     if own {
@@ -45,11 +47,13 @@ fn put_own_all(
     trees: &[Tree],
 ) -> Result<(), NoMemory>
     requires fits { own_fit (is_own kind label (length forms.now)) 0
-        (map (piece bound.now.context.now.decls.now bound.now.context.now.tokens.now (total bound.now.env.now)) forms.now)
+        (map (piece bound.now.context.now.decls.now bound.now.context.now.tokens.now bound.now.context.now.types.now (total
+        bound.now.env.now)) forms.now)
         trees.now ≡ true }
     ensures { OnOk result (found.new.items ≡ found.old.items
         ++ numbers (own_pairs (is_own kind label (length forms.now)) 0
-        (map (piece bound.now.context.now.decls.now bound.now.context.now.tokens.now (total bound.now.env.now)) forms.now)
+        (map (piece bound.now.context.now.decls.now bound.now.context.now.tokens.now bound.now.context.now.types.now (total
+        bound.now.env.now)) forms.now)
         trees.now)) }
 {
     for i in 0..forms.len() {
@@ -69,11 +73,13 @@ fn put_own_kids(
     tree: &Tree,
 ) -> Result<(), NoMemory>
     requires fits { kids_fit (own_fit (is_own kind label (length forms.now)) 0) label
-        (map (piece bound.now.context.now.decls.now bound.now.context.now.tokens.now (total bound.now.env.now)) forms.now)
+        (map (piece bound.now.context.now.decls.now bound.now.context.now.tokens.now bound.now.context.now.types.now (total
+        bound.now.env.now)) forms.now)
         (out-Tree tree.now) ≡ true }
     ensures { OnOk result (found.new.items ≡ found.old.items
         ++ numbers (kids_pairs (own_pairs (is_own kind label (length forms.now)) 0)
-        (map (piece bound.now.context.now.decls.now bound.now.context.now.tokens.now (total bound.now.env.now)) forms.now)
+        (map (piece bound.now.context.now.decls.now bound.now.context.now.tokens.now bound.now.context.now.types.now (total
+        bound.now.env.now)) forms.now)
         (out-Tree tree.now))) }
 {
     match tree {
@@ -99,10 +105,12 @@ pub fn put_own(
     form: &Tree,
     tree: &Tree,
 ) -> Result<(), NoMemory>
-    requires fits { own_fits bound.now.context.now.decls.now bound.now.context.now.tokens.now (total bound.now.env.now) kind
+    requires fits { own_fits bound.now.context.now.decls.now bound.now.context.now.tokens.now bound.now.context.now.types.now
+        (total bound.now.env.now) kind
         (out-Tree form.now) tree.now ≡ true }
     ensures { OnOk result (found.new.items ≡ found.old.items
         ++ numbers (own_alignment bound.now.context.now.decls.now bound.now.context.now.tokens.now
+        bound.now.context.now.types.now
         (total bound.now.env.now) kind (out-Tree form.now) tree.now)) }
 {
     match form {

@@ -25,7 +25,7 @@ fn does_fit(
     tree: &Tree,
 ) -> Result<bool, NoMemory>
     ensures { IfOk result (λ r. r
-        ≡ fits_tree bound.now.context.now.decls.now bound.now.context.now.tokens.now
+        ≡ fits_tree bound.now.context.now.decls.now bound.now.context.now.tokens.now bound.now.context.now.types.now
         (total bound.now.env.now) form.now tree.now) }
 {
     let set = fit(alloc, bound.context, form, tree)?;
@@ -42,10 +42,10 @@ pub fn put_pairs(
     form: &Tree,
     tree: &Tree,
 ) -> Result<(), NoMemory>
-    requires fits { fits_tree bound.now.context.now.decls.now bound.now.context.now.tokens.now
+    requires fits { fits_tree bound.now.context.now.decls.now bound.now.context.now.tokens.now bound.now.context.now.types.now
         (total bound.now.env.now) form.now tree.now ≡ true }
     ensures { OnOk result (found.new.items ≡ found.old.items
-        ++ numbers (alignment bound.now.context.now.decls.now bound.now.context.now.tokens.now
+        ++ numbers (alignment bound.now.context.now.decls.now bound.now.context.now.tokens.now bound.now.context.now.types.now
         (total bound.now.env.now) form.now tree.now)) }
 {
     match form {
@@ -70,14 +70,18 @@ fn put_branch(
     forms: &[Tree],
     tree: &Tree,
 ) -> Result<(), NoMemory>
-    requires fits { fits_by bound.now.context.now.decls.now bound.now.context.now.tokens.now (total bound.now.env.now)
+    requires fits { fits_by bound.now.context.now.decls.now bound.now.context.now.tokens.now bound.now.context.now.types.now
+        (total bound.now.env.now)
         (shape_of label) label
-        (map (piece bound.now.context.now.decls.now bound.now.context.now.tokens.now (total bound.now.env.now)) forms.now)
+        (map (piece bound.now.context.now.decls.now bound.now.context.now.tokens.now bound.now.context.now.types.now (total
+        bound.now.env.now)) forms.now)
         tree.now ≡ true }
     ensures { OnOk result (found.new.items ≡ found.old.items
-        ++ numbers (pairs_by bound.now.context.now.decls.now bound.now.context.now.tokens.now (total bound.now.env.now)
+        ++ numbers (pairs_by bound.now.context.now.decls.now bound.now.context.now.tokens.now bound.now.context.now.types.now
+        (total bound.now.env.now)
         (shape_of label) label
-        (map (piece bound.now.context.now.decls.now bound.now.context.now.tokens.now (total bound.now.env.now)) forms.now)
+        (map (piece bound.now.context.now.decls.now bound.now.context.now.tokens.now bound.now.context.now.types.now (total
+        bound.now.env.now)) forms.now)
         tree.now)) }
 {
     match label.shape() {
@@ -99,6 +103,7 @@ fn put_first(
 ) -> Result<(), NoMemory>
     ensures { OnOk result (found.new.items ≡ found.old.items
         ++ numbers (first_pairs (map (piece bound.now.context.now.decls.now bound.now.context.now.tokens.now
+        bound.now.context.now.types.now
         (total bound.now.env.now)) forms.now) tree.now)) }
 {
     for form in forms {
@@ -120,8 +125,10 @@ fn put_where_it_fits(
 ) -> Result<(), NoMemory>
     ensures { OnOk result (found.new.items ≡ found.old.items
         ++ numbers (cond (fits_tree bound.now.context.now.decls.now bound.now.context.now.tokens.now
+        bound.now.context.now.types.now
         (total bound.now.env.now) form.now tree.now)
-        (alignment bound.now.context.now.decls.now bound.now.context.now.tokens.now (total bound.now.env.now) form.now tree.now)
+        (alignment bound.now.context.now.decls.now bound.now.context.now.tokens.now bound.now.context.now.types.now (total
+        bound.now.env.now) form.now tree.now)
         [])) }
 {
     if does_fit(alloc, bound, form, tree)? {
@@ -142,6 +149,7 @@ fn put_every(
 ) -> Result<(), NoMemory>
     ensures { OnOk result (found.new.items ≡ found.old.items
         ++ numbers (every_pairs (map (piece bound.now.context.now.decls.now bound.now.context.now.tokens.now
+        bound.now.context.now.types.now
         (total bound.now.env.now)) forms.now) tree.now)) }
 {
     for form in forms {
@@ -160,10 +168,12 @@ fn put_kids(
     tree: &Tree,
 ) -> Result<(), NoMemory>
     requires fits { kids_fit all_fit label (map (piece bound.now.context.now.decls.now bound.now.context.now.tokens.now
+        bound.now.context.now.types.now
         (total bound.now.env.now)) forms.now)
         (out-Tree tree.now) ≡ true }
     ensures { OnOk result (found.new.items ≡ found.old.items
         ++ numbers (kids_pairs zip_pairs (map (piece bound.now.context.now.decls.now bound.now.context.now.tokens.now
+        bound.now.context.now.types.now
         (total bound.now.env.now)) forms.now)
         (out-Tree tree.now))) }
 {
@@ -183,9 +193,11 @@ fn put_all(
     trees: &[Tree],
 ) -> Result<(), NoMemory>
     requires fits { all_fit (map (piece bound.now.context.now.decls.now bound.now.context.now.tokens.now
+        bound.now.context.now.types.now
         (total bound.now.env.now)) forms.now) trees.now ≡ true }
     ensures { OnOk result (found.new.items ≡ found.old.items
         ++ numbers (zip_pairs (map (piece bound.now.context.now.decls.now bound.now.context.now.tokens.now
+        bound.now.context.now.types.now
         (total bound.now.env.now)) forms.now) trees.now)) }
 {
     for i in 0..forms.len() {
@@ -206,12 +218,14 @@ fn put_list(
 ) -> Result<(), NoMemory>
     requires fits { kids_fit (list_fits bound.now.context.now.decls.now bound.now.context.now.tokens.now
         (total bound.now.env.now) label) label
-        (map (piece bound.now.context.now.decls.now bound.now.context.now.tokens.now (total bound.now.env.now)) forms.now)
+        (map (piece bound.now.context.now.decls.now bound.now.context.now.tokens.now bound.now.context.now.types.now (total
+        bound.now.env.now)) forms.now)
         (out-Tree tree.now) ≡ true }
     ensures { OnOk result (found.new.items ≡ found.old.items
         ++ numbers (kids_pairs (list_pairs bound.now.context.now.decls.now bound.now.context.now.tokens.now
         (total bound.now.env.now) label)
-        (map (piece bound.now.context.now.decls.now bound.now.context.now.tokens.now (total bound.now.env.now)) forms.now)
+        (map (piece bound.now.context.now.decls.now bound.now.context.now.tokens.now bound.now.context.now.types.now (total
+        bound.now.env.now)) forms.now)
         (out-Tree tree.now))) }
 {
     match tree {
@@ -233,10 +247,11 @@ fn put_members(
     forms: &[Tree],
     members: &[ListMember],
 ) -> Result<(), NoMemory>
-    requires fits { fits_from bound.now.context.now.decls.now bound.now.context.now.tokens.now label None forms.now members.now
+    requires fits { fits_from bound.now.context.now.decls.now bound.now.context.now.tokens.now
+        bound.now.context.now.types.now label None forms.now members.now
         (total bound.now.env.now) ≡ true }
     ensures { OnOk result (found.new.items ≡ found.old.items
-        ++ numbers (left_pairs bound.now.context.now.decls.now bound.now.context.now.tokens.now
+        ++ numbers (left_pairs bound.now.context.now.decls.now bound.now.context.now.tokens.now bound.now.context.now.types.now
         (total bound.now.env.now) label None forms.now members.now)) }
 {
     let mut taken: usize = 0;
@@ -260,10 +275,12 @@ fn put_next(
 ) -> Result<usize, NoMemory>
     requires within { i < length forms.now }
     requires left { taken ≤ length members.now }
-    requires fits { fits_from bound.now.context.now.decls.now bound.now.context.now.tokens.now label
+    requires fits { fits_from bound.now.context.now.decls.now bound.now.context.now.tokens.now
+        bound.now.context.now.types.now label
         (comma_before forms.now i) (drop i forms.now)
         (drop taken members.now) (total bound.now.env.now) ≡ true }
     ensures { IfOk result (λ next. IsNext bound.now.context.now.decls.now bound.now.context.now.tokens.now
+        bound.now.context.now.types.now
         (total bound.now.env.now) label forms.now i members.now taken next
         found.old.items found.new.items) }
 {
@@ -302,12 +319,13 @@ fn taken_member<'a, 'b>(
     requires member { comma child.now.form.now ≡ None }
     requires single { is_wild child.now.label (leaf_of (out-Tree child.now.form.now)) ≡ false }
     requires left { taken ≤ length members.now }
-    requires fits { fits_from bound.now.context.now.decls.now bound.now.context.now.tokens.now child.now.label
+    requires fits { fits_from bound.now.context.now.decls.now bound.now.context.now.tokens.now
+        bound.now.context.now.types.now child.now.label
         (comma_before child.now.forms.now child.now.i) (drop child.now.i child.now.forms.now)
         (drop taken members.now) (total bound.now.env.now) ≡ true }
     ensures less { taken < length members.now }
     ensures item { result.now ≡ slice_index_or members.now taken result.now }
-    ensures fits { fits_tree bound.now.context.now.decls.now bound.now.context.now.tokens.now
+    ensures fits { fits_tree bound.now.context.now.decls.now bound.now.context.now.tokens.now bound.now.context.now.types.now
         (total bound.now.env.now) child.now.form.now result.now.tree ≡ true }
 {
     &members[taken]
@@ -331,10 +349,12 @@ fn put_single<'x>(
     requires member { comma form.now ≡ None }
     requires single { is_wild label (leaf_of (out-Tree form.now)) ≡ false }
     requires left { taken ≤ length members.now }
-    requires fits { fits_from bound.now.context.now.decls.now bound.now.context.now.tokens.now label
+    requires fits { fits_from bound.now.context.now.decls.now bound.now.context.now.tokens.now
+        bound.now.context.now.types.now label
         (comma_before forms.now i) (drop i forms.now)
         (drop taken members.now) (total bound.now.env.now) ≡ true }
     ensures { IfOk result (λ next. IsNext bound.now.context.now.decls.now bound.now.context.now.tokens.now
+        bound.now.context.now.types.now
         (total bound.now.env.now) label forms.now i members.now taken next
         found.old.items found.new.items) }
 {

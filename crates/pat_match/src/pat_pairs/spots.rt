@@ -28,10 +28,12 @@ fn put_brace(
     brace: Option<&Tree>,
 ) -> Result<(), NoMemory>
     requires fits { at.option_fits (fits_tree bound.now.context.now.decls.now bound.now.context.now.tokens.now
+        bound.now.context.now.types.now
         (total bound.now.env.now) form.now)
         (option_copied brace) ≡ true }
     ensures { OnOk result (found.new.items ≡ found.old.items
         ++ spec.numbers (at.option_pairs (alignment bound.now.context.now.decls.now bound.now.context.now.tokens.now
+        bound.now.context.now.types.now
         (total bound.now.env.now) form.now)
         (option_copied brace.entry))) }
 {
@@ -51,9 +53,11 @@ fn put_token_whole(
     tree: &Tree,
 ) -> Result<(), NoMemory>
     requires fits { at.token_whole bound.now.context.now.decls.now bound.now.context.now.tokens.now
+        bound.now.context.now.types.now
         (total bound.now.env.now) kind token.now form.now tree.now ≡ true }
     ensures { OnOk result (found.new.items ≡ found.old.items
         ++ spec.numbers (at.token_alignment bound.now.context.now.decls.now bound.now.context.now.tokens.now
+        bound.now.context.now.types.now
         (total bound.now.env.now) kind token.now form.now tree.now)) }
 {
     if is_open_brace(token) {
@@ -74,9 +78,11 @@ fn put_branch_whole(
     tree: &Tree,
 ) -> Result<(), NoMemory>
     requires fits { at.branch_whole bound.now.context.now.decls.now bound.now.context.now.tokens.now
+        bound.now.context.now.types.now
         (total bound.now.env.now) kind form.now tree.now ≡ true }
     ensures { OnOk result (found.new.items ≡ found.old.items
         ++ spec.numbers (at.branch_alignment bound.now.context.now.decls.now bound.now.context.now.tokens.now
+        bound.now.context.now.types.now
         (total bound.now.env.now) kind form.now tree.now)) }
 {
     match kind {
@@ -95,10 +101,12 @@ fn put_whole(
     form: &Tree,
     tree: &Tree,
 ) -> Result<(), NoMemory>
-    requires fits { at.whole_at bound.now.context.now.decls.now bound.now.context.now.tokens.now (total bound.now.env.now) kind
+    requires fits { at.whole_at bound.now.context.now.decls.now bound.now.context.now.tokens.now
+        bound.now.context.now.types.now (total bound.now.env.now) kind
         (out-Tree form.now) form.now tree.now ≡ true }
     ensures { OnOk result (found.new.items ≡ found.old.items
         ++ spec.numbers (at.whole_alignment bound.now.context.now.decls.now bound.now.context.now.tokens.now
+        bound.now.context.now.types.now
         (total bound.now.env.now) kind (out-Tree form.now) form.now tree.now)) }
 {
     match form {
@@ -115,10 +123,11 @@ fn put_tail(
     form: &Tree,
     tree: &Tree,
 ) -> Result<(), NoMemory>
-    requires fits { at.fits_at bound.now.context.now.decls.now bound.now.context.now.tokens.now
+    requires fits { at.fits_at bound.now.context.now.decls.now bound.now.context.now.tokens.now bound.now.context.now.types.now
         (total bound.now.env.now) spot.Tail kind form.now tree.now ≡ true }
     ensures { OnOk result (found.new.items ≡ found.old.items
         ++ spec.numbers (at.alignment_at bound.now.context.now.decls.now bound.now.context.now.tokens.now
+        bound.now.context.now.types.now
         (total bound.now.env.now) spot.Tail kind form.now tree.now)) }
 {
     put_own(alloc, found, bound, NodeKind::DoTail, form, tree)
@@ -133,10 +142,11 @@ fn pairs_at(
     form: &Tree,
     tree: &Tree,
 ) -> Result<Vec<AlignedToken>, NoMemory>
-    requires fits { at.fits_at bound.now.context.now.decls.now bound.now.context.now.tokens.now
+    requires fits { at.fits_at bound.now.context.now.decls.now bound.now.context.now.tokens.now bound.now.context.now.types.now
         (total bound.now.env.now) spot kind form.now tree.now ≡ true }
     ensures { IfOk result (λ r. r.items
         ≡ spec.numbers (at.alignment_at bound.now.context.now.decls.now bound.now.context.now.tokens.now
+        bound.now.context.now.types.now
         (total bound.now.env.now) spot kind form.now tree.now)) }
 {
     let mut found = Vec::new(alloc);
@@ -163,7 +173,8 @@ pub fn aligned_tokens<'x>(
     env: &'x Env,
 ) -> Result<Option<Vec<AlignedToken>>, NoMemory>
     ensures exact { IfOk result (λ r. option_map (λ found. found.items) r
-        ≡ spec.aligned_tokens context.now.decls.now context.now.tokens.now (total env.now) p.now role tree.now) }
+        ≡ spec.aligned_tokens context.now.decls.now context.now.tokens.now context.now.types.now (total env.now) p.now role
+        tree.now) }
 {
     let bound = BoundContext { context, env };
     let forms = p.forms.as_slice();

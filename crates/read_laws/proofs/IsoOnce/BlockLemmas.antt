@@ -1,6 +1,6 @@
 -- A block has at most one isomorphism and at most one fault, and not both.
 use Rattle.std.specs.Prelude.{IsTrue, codes}
-use Rattle.std.proofs.Common.{◌≡◌, ℕ, ◌+◌, Bool, true, List, [], ◌∷◌, Some, take, drop, map, refl, sym, ap, ◌∙◌, subst}
+use Rattle.std.proofs.Common.{◌≡◌, ℕ, ◌+◌, Bool, true, Option, List, [], ◌∷◌, Some, take, drop, map, refl, sym, ap, ◌∙◌, subst}
 use Rattle.c_terms.specs.declared.token.Token.{Token}
 use Rattle.c_terms.specs.declared.tree.Tree.{Tree}
 use Rattle.c_terms.specs.Names.{listed_names}
@@ -12,7 +12,9 @@ use Rattle.smpl_patch.specs.declared.pattern.VarDecl.{VarDecl}
 use Rattle.smpl_patch.specs.declared.rule.Iso.{Iso}
 use Rattle.smpl_lexer.specs.declared.token.PatchToken.{PatchToken}
 use Rattle.smpl_lexer.specs.Tokens.{is_word}
-use Rattle.smpl_meta.specs.Decls.{vars_of}
+use Rattle.smpl_meta.specs.declared.item.Item.{Item}
+use Rattle.smpl_meta.specs.Decls.{vars_of, AreAnswers}
+use Rattle.smpl_meta.proofs.DeclsOnce.{answers-once}
 use Rattle.smpl_meta.specs.Patterns.{made}
 use Rattle.iso_file.specs.declared.fault.IsoFault.{IsoFault}
 use Rattle.iso_file.specs.declared.fault.IsoFault.TheVariants as fault
@@ -75,8 +77,12 @@ module _ (law : OneTree) where
   behind-once lines vars vars' sides sides' arrows arrows' trees trees' a b =
       let at : Some a.second ≡ Some b.second = sym a.second_is ∙ b.second_is in
       let second : a.second ≡ b.second = cc in
-      let vars_are : vars ≡ vars' = a.vars_are.decls.vars_are ∙ ap (λ (n : ℕ). vars_of [] 0 (concatenated (take n lines))) second
-      ∙ sym b.vars_are.decls.vars_are in
+      let one = a.vars_are.decls in
+      let other = b.vars_are.decls in
+      let read : AreAnswers (concatenated (take b.second lines)) one.answers
+      = subst (λ (n : ℕ). AreAnswers (concatenated (take n lines)) one.answers) second one.read in
+      let answers = answers-once law (concatenated (take b.second lines)) one.answers other.answers read other.read in
+      let vars_are : vars ≡ vars' = one.vars_are ∙ (ap (λ (l : List (Option (List Item))). vars_of [] 0 l) answers ∙ sym other.vars_are) in
       let sides_are : sides ≡ sides' = a.sides_are ∙ ap (λ (n : ℕ). sides_in (concatenated (drop (n + 1) lines))) second ∙ sym b.sides_are in
       let arrows_are : arrows ≡ arrows' = a.arrows_are ∙ ap (λ (n : ℕ). arrows_in (concatenated (drop (n + 1) lines))) second ∙ sym b.arrows_are in
       let moved : AreSides vars' sides' trees = subst (λ (ss : List (List PatchToken)). AreSides vars' ss trees) sides_are

@@ -1,5 +1,5 @@
 -- Every text is cut: as C text, like plus code and isomorphisms, and as lines of patches, which contain signs.
-use Rattle.std.proofs.Common.{◌≡◌, ◌+◌, ◌<◌, ◌≤◌, ◌||◌, ℕ, zero, suc, Bool, true, false, Option, Some, None, IsSomeAnd, List}
+use Rattle.std.proofs.Common.{◌≡◌, ◌<◌, ◌≤◌, ◌||◌, ℕ, zero, suc, Bool, true, false, Option, Some, None, IsSomeAnd, List}
 use Rattle.std.proofs.Common.{[], ◌∷◌, ◌++◌, length, take, drop, inl, inr, refl, sym, ap, ◌∙◌, subst, arith, codes}
 use Rattle.std.proofs.Common.{if◌then◌else◌, length-append, length-take, take-append-drop}
 use Rattle.std.proofs.lemmas.Bool.{or_cases}

@@ -164,10 +164,7 @@ module _ (law : CutLaw) (bytes : List ℕ) (accept : (patch : Patch) → IsPatch
       (record { rule = w.rule; within = w.within; before = w.before; are = w.are; here = here }))))
 
   headed : (text : PatchText) → IsTextOf bytes text → ⊥
-  headed text is = elim (heads_end text) [
-    | inl hs ↦ ruled text is hs.0 hs.1
-    | inr f ↦ refuse f.0 (spelling (in_heads text is f.1))
-  ]
+  headed text is = heads_end text (λ hs are. ruled text is hs are) (λ f w. refuse f (spelling (in_heads text is w)))
 
   pub patch_end : ⊥
   patch_end = elim (text_end law bytes) [

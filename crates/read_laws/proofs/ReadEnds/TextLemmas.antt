@@ -14,11 +14,13 @@ use Rattle.smpl_lexer.specs.CutLines.{CutLine, AreCutLines}
 use Rattle.smpl_lexer.specs.Texts.{text_faults, text_of, most_bytes, AreLinesOf, IsTextOf, IsTextFault}
 use Rattle.smpl_lexer.proofs.Readings.{no_first}
 use Rattle.smpl_meta.specs.declared.head.RuleHead.{RuleHead}
-use Rattle.smpl_meta.specs.Decls.{vars_of}
+use Rattle.smpl_meta.specs.declared.item.Item.{Item}
+use Rattle.smpl_meta.specs.Decls.{vars_of, AreAnswers}
 use Rattle.smpl_meta.specs.Heads.{head_faults, IsHead, IsHeadFault, AreHeads, IsFirstHeadFault}
 use Rattle.smpl_meta.specs.Shunting.{head_of}
 use Rattle.smpl_meta.proofs.HeadLemmas.{head_is}
 use Rattle.read_laws.proofs.ReadEnds.PieceLemmas.{CutLaw, line_cut}
+use Rattle.read_laws.proofs.ReadEnds.DeclLemmas.{answers_some}
 
 pub order : (a b : ℕ) → (a ≤ b) ⊎ (b < a)
 order a b = grind arith
@@ -63,9 +65,6 @@ module _ (text : PatchText) where
     fault : PatchFault
     here : IfSome (slice_get rs rule) (λ r. IsHeadFault text.virtuals (earlier ++ heads) r fault)
 
-  abbrev Heads : List RuleHead → List RuleText → Type 0
-  Heads earlier rs = ((hs : List RuleHead) × AreHeads text earlier rs hs) ⊎ Wrong earlier rs
-
   wrong_here : (earlier : List RuleHead) (r : RuleText) (rs : List RuleText) (f : PatchFault) → IsHeadFault text.virtuals earlier r f → Wrong earlier (r ∷ rs)
   wrong_here earlier r rs f is = record {
     rule = 0;
@@ -88,25 +87,28 @@ module _ (text : PatchText) where
         (append_assoc earlier (h ∷ []) w.heads) w.here;
   }
 
-  heads_by : (earlier : List RuleHead) (r : RuleText) (rs : List RuleText) → ((h : RuleHead) → Heads (earlier ++ h ∷ []) rs)
-      → (first : Option PatchFault) → first_of (head_faults text.virtuals earlier r) ≡ first → Heads earlier (r ∷ rs)
-  heads_by earlier r rs later (Some f) e = inr (wrong_here earlier r rs f e)
-  heads_by earlier r rs later None e =
-      let vars = vars_of earlier (length earlier) r.decls in
+  -- heads, or a first fault: it is impossible that there is neither
+  abbrev Ends : List RuleHead → List RuleText → Type 0
+  Ends earlier rs = ((hs : List RuleHead) → AreHeads text earlier rs hs → ⊥) → (Wrong earlier rs → ⊥) → ⊥
+
+  heads_by : (earlier : List RuleHead) (r : RuleText) (rs : List RuleText) → ((h : RuleHead) → Ends (earlier ++ h ∷ []) rs)
+      → (answers : List (Option (List Item))) → AreAnswers r.decls answers
+      → (first : Option PatchFault) → first_of (head_faults text.virtuals earlier answers r) ≡ first → Ends earlier (r ∷ rs)
+  heads_by earlier r rs later answers read (Some f) e accept refuse =
+      refuse (wrong_here earlier r rs f (record { answers = answers; read = read; first = e }))
+  heads_by earlier r rs later answers read None e accept refuse =
+      let vars = vars_of earlier (length earlier) answers in
       let h = head_of earlier r vars in
-      let is = head_is text.virtuals earlier (length earlier) r vars h e refl refl in
-      elim (later h) [
-        | inl hs ↦ inl (h ∷ hs.0, (is, hs.1))
-        | inr w ↦ inr (wrong_later earlier r rs h is w)
-      ]
+      let is = head_is text.virtuals earlier (length earlier) answers r vars h read e refl refl in
+      later h (λ hs are. accept (h ∷ hs) (is, are)) (λ w. refuse (wrong_later earlier r rs h is w))
 
-  heads_from : (earlier : List RuleHead) (rs : List RuleText) → Heads earlier rs
-  heads_from earlier [] = inl ([], tt)
-  heads_from earlier (r ∷ rs) =
-      heads_by earlier r rs (λ h. heads_from (earlier ++ h ∷ []) rs) (first_of (head_faults text.virtuals earlier r)) refl
+  heads_from : (earlier : List RuleHead) (rs : List RuleText) → Ends earlier rs
+  heads_from earlier [] accept refuse = accept [] tt
+  heads_from earlier (r ∷ rs) accept refuse =
+      answers_some r.decls (λ answers read.
+      heads_by earlier r rs (λ h. heads_from (earlier ++ h ∷ []) rs) answers read (first_of (head_faults text.virtuals earlier answers r)) refl accept refuse)
 
-  pub heads_end : ((hs : List RuleHead) × AreHeads text [] text.rules hs) ⊎ ((f : PatchFault) × IsFirstHeadFault text f)
-  heads_end = elim (heads_from [] text.rules) [
-    | inl hs ↦ inl hs
-    | inr w ↦ inr (w.fault, record { rule = w.rule; within = w.within; heads = w.heads; before = w.before; here = w.here })
-  ]
+  pub heads_end : ((hs : List RuleHead) → AreHeads text [] text.rules hs → ⊥) → ((f : PatchFault) → IsFirstHeadFault text f → ⊥) → ⊥
+  heads_end accept refuse =
+      heads_from [] text.rules accept
+      (λ w. refuse w.fault (record { rule = w.rule; within = w.within; heads = w.heads; before = w.before; here = w.here }))

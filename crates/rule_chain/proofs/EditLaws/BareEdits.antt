@@ -6,7 +6,7 @@ use Rattle.std.specs.List.{flat_map, list_any, AllZip}
 use Rattle.c_lexer.specs.Pieces.{TextPiece}
 use Rattle.c_lexer.specs.Ids.{ids_of}
 use Rattle.cpp_lines.specs.declared.reading.Item.{Item}
-use Rattle.cfg_build.specs.declared.cfg_graph.label.NodeKind.{NodeKind}
+use Rattle.edit_marks.specs.declared.edit_walk.nodes.ItemNodes.{ItemNodes}
 use Rattle.smpl_terms.specs.declared.var.Var.{Var}
 use Rattle.smpl_terms.specs.declared.value.Value.{Value}
 use Rattle.smpl_terms.specs.Environments.{total}
@@ -33,7 +33,8 @@ use Rattle.edit_marks.specs.Inserts.{insert_of}
 use Rattle.edit_marks.specs.Edits.{block_of, side_of, anchor_of, insert_if, inserts_at, EditOf}
 use Rattle.edit_marks.specs.Tokens.{file_tokens}
 use Rattle.edit_marks.specs.EditWalk.Touches.{Values, Touched, bound, touches_in, touches_of, touches}
-use Rattle.edit_marks.specs.EditWalk.Named.{pattern_of, kind_at, tree_at, pairs_of, pairs_at}
+use Rattle.edit_marks.specs.EditWalk.Named.{pattern_of, tree_at, pairs_of, pairs_at}
+use Rattle.edit_marks.specs.EditWalk.Nodes.{kind_at, types_at}
 use Rattle.edit_marks.specs.EditWalk.Edited.{IsEditAt, AreEdits}
 use Rattle.edit_marks.proofs.EditWalk.TouchLemmas.{touches-Touch, touches-Bind}
 use Rattle.rule_chain.specs.RuleWitnesses.Bare.{bare_step, bare_tree, bare_witness}
@@ -125,31 +126,32 @@ module _ (decls : List VarDecl) (tokens : List PatToken) (env : Values) (files :
 
 -- ---- the edits of all
 
-module _ (rule : Rule) (items : List Item) (kinds : List (List NodeKind)) (pieces : List TextPiece) where
+module _ (rule : Rule) (items : List Item) (nodes : List ItemNodes) (pieces : List TextPiece) where
   abbrev patterns : List Pattern
   patterns = patterns_body (body rule.body)
 
   abbrev pairs_here : Touched → List Aligned
-  pairs_here = pairs_at patterns rule.vars rule.tokens items kinds (ids_of pieces)
+  pairs_here = pairs_at patterns rule.vars rule.tokens items nodes (ids_of pieces)
 
   same_pairs : (t : Touched) → pairs_here (bare_touch t) ≡ pairs_here t
   same_pairs t = λ i. pairs_of (ids_of pieces)
       (option_and_then (λ p. option_and_then (λ k. option_and_then
-      (λ tree. aligned_alike rule.vars rule.tokens (total (bare_env t.env)) (total t.env) (bare_alike t.env) p (role_at k t.path) tree i)
-      (tree_at items t.item t.path)) (kind_at kinds t.item t.node)) (pattern_of patterns t.atom))
+      (λ tree. aligned_alike rule.vars rule.tokens (types_at nodes t.item) (total (bare_env t.env)) (total t.env) (bare_alike t.env) p
+      (role_at k t.path) tree i)
+      (tree_at items t.item t.path)) (kind_at nodes t.item t.node)) (pattern_of patterns t.atom))
 
-  without_ids : (t : Touched) (e : Edit) → IsEditAt rule items kinds pieces (bare_touch t) e → IsEditAt rule items kinds pieces t e
+  without_ids : (t : Touched) (e : Edit) → IsEditAt rule items nodes pieces (bare_touch t) e → IsEditAt rule items nodes pieces t e
   without_ids t e is =
       without rule.vars rule.tokens t.env (file_tokens pieces) (pairs_here t) e
       (subst (λ (ps : List Aligned). EditOf rule.vars rule.tokens (bare_env t.env) (file_tokens pieces) ps e) (same_pairs t) is)
 
-  with_ids : (t : Touched) (e : Edit) → IsEditAt rule items kinds pieces t e → IsEditAt rule items kinds pieces (bare_touch t) e
+  with_ids : (t : Touched) (e : Edit) → IsEditAt rule items nodes pieces t e → IsEditAt rule items nodes pieces (bare_touch t) e
   with_ids t e is =
       subst (λ (ps : List Aligned). EditOf rule.vars rule.tokens (bare_env t.env) (file_tokens pieces) ps e) (sym (same_pairs t))
       (back rule.vars rule.tokens t.env (file_tokens pieces) (pairs_here t) e is)
 
   abbrev R : Touched → Edit → Type 0
-  R = IsEditAt rule items kinds pieces
+  R = IsEditAt rule items nodes pieces
 
   all_without : (ts : List Touched) (es : List Edit) → AllZip R (map bare_touch ts) es → AllZip R ts es
   all_without [] [] h = tt
@@ -163,15 +165,15 @@ module _ (rule : Rule) (items : List Item) (kinds : List (List NodeKind)) (piece
   all_with (t ∷ ts) [] h = absurd h
   all_with (t ∷ ts) (e ∷ es) h = (with_ids t e h.0, all_with ts es h.1)
 
-  pub edits_without : (ws : List RuleWitness) (es : List Edit) → AreEdits (map bare_witness ws) rule items kinds pieces es
-      → AreEdits ws rule items kinds pieces es
+  pub edits_without : (ws : List RuleWitness) (es : List Edit) → AreEdits (map bare_witness ws) rule items nodes pieces es
+      → AreEdits ws rule items nodes pieces es
   edits_without ws es h = record {
     all = h.all;
     each = all_without (touches ws) h.all (subst (λ (ts : List Touched). AllZip R ts h.all) (bare_touches ws) h.each);
     distinct = h.distinct;
   }
 
-  pub edits_with : (ws : List RuleWitness) (es : List Edit) → AreEdits ws rule items kinds pieces es → AreEdits (map bare_witness ws) rule items kinds pieces es
+  pub edits_with : (ws : List RuleWitness) (es : List Edit) → AreEdits ws rule items nodes pieces es → AreEdits (map bare_witness ws) rule items nodes pieces es
   edits_with ws es h = record {
     all = h.all;
     each = subst (λ (ts : List Touched). AllZip R ts h.all) (sym (bare_touches ws)) (all_with (touches ws) h.all h.each);

@@ -1,6 +1,8 @@
 -- Nothing is found in an item that lacks a word which the rule's formula needs.
 use Rattle.std.proofs.Common.{◌≡◌, ◌<◌, ◌+◌, ◌^◌, ℕ, zero, suc, Bool, true, false, not, refl, sym, ap, ap₂, ◌∙◌, arith, Option}
 use Rattle.std.proofs.Common.{None, Some, IfSome, List, [], ◌∷◌, ◌++◌, map}
+use Rattle.std.specs.Prelude.{slice_get, take}
+use Rattle.std.specs.Option.{option_map}
 use Rattle.std.specs.List.{filter, flat_map}
 use Rattle.std.proofs.lemmas.List.Concat.{flat_map-append}
 use Rattle.c_terms.specs.declared.tree.Tree.{Tree}
@@ -8,9 +10,12 @@ use Rattle.c_terms.proofs.SameLaws.{bytes-refl}
 use Rattle.c_terms.specs.Same.{same_bytes}
 use Rattle.cpp_lines.specs.declared.reading.Item.{Item}
 use Rattle.cpp_lines.specs.declared.reading.Item.TheVariants.{Parsed, Skipped}
-use Rattle.cfg_build.specs.CfgGraph.Flow.{count_of}
+use Rattle.c_types.specs.Tables.{ItemTypes, no_types}
+use Rattle.c_typing.specs.ItemTypes.{item_types}
+use Rattle.cfg_build.specs.CfgGraph.Flow.{count_of, with_types}
 use Rattle.cfg_build.specs.Graphs.{node_count, graph_of}
 use Rattle.c_file.specs.Fit.{item_graph}
+use Rattle.c_file.specs.ItemGraphs.Typed.{typed_tree, scope_of, graph_in}
 use Rattle.smpl_terms.specs.declared.var.Var.{Var}
 use Rattle.smpl_terms.specs.declared.value.Value.{Value}
 use Rattle.smpl_terms.specs.Environments.{total}
@@ -27,6 +32,8 @@ use Rattle.env_parts.specs.Parts.{Pairs}
 use Rattle.c_file.specs.ItemGraphs.Trees.{item_tree}
 use Rattle.ctl_fixpoint.specs.RequiredWords.Words.{needs, has_word, has_words}
 use Rattle.ctl_fixpoint.proofs.RequiredWords.HoldWords.{holds_no}
+use Rattle.smpl_patch.specs.Wants.{ask_types}
+use Rattle.rule_chain.specs.FileWitnesses.Seen.{seen_graph}
 use Rattle.rule_chain.specs.FileWitnesses.Found.{witnesses_in}
 use Rattle.rule_chain.specs.FileWitnesses.Lacking.{AreNeeded, misses}
 
@@ -46,9 +53,10 @@ not_false false h = refl
 
 module _ (number : ℕ) (rule : Rule) (f : FormulaOf) (is : IsFormulaOf rule f) (words : List (List ℕ)) (needed : AreNeeded words f)
     (item : ℕ) (env : Pairs) where
-  no_witness : (t : Tree) → node_count t < 2 ^ 32 → has_words words t ≡ false → witnesses_in number rule item (Some (graph_of t)) env ≡ []
-  no_witness t few h =
-      let g = graph_of t in
+  no_witness : (t : Tree) (types : ItemTypes) → node_count t < 2 ^ 32 → has_words words t ≡ false
+      → witnesses_in number rule item (Some (with_types (graph_of t) types)) env ≡ []
+  no_witness t types few h =
+      let g = with_types (graph_of t) types in
       let k = all_lacks (λ w. has_word w t) words h in
       let n : needs k.0 (plain f) ≡ true = needed k.0 (any_has (λ x. same_bytes x k.0) k.0 words k.1 (bytes-refl k.0)) in
       let m : needs k.0 (formula_of rule) ≡ true = ap (needs k.0) (sym is.formula) ∙ n in
@@ -60,10 +68,19 @@ module _ (number : ℕ) (rule : Rule) (f : FormulaOf) (is : IsFormulaOf rule f) 
       (λ s lt. ap (map (witness_at rule.vars rule.tokens g (formula_of rule) rule.exports number item s))
       (filter_none (λ (e : List (Var × Value)). holds rule.vars rule.tokens g (count_of g + 1) (formula_of rule) s (total e))
       (choices (in_order (values_of g)) rule.exports env)
-      (λ e. holds_no k.0 rule.vars rule.tokens t few k.2 (count_of g + 1) (formula_of rule) m s lt (total e))))
+      (λ e. holds_no k.0 rule.vars rule.tokens t types few k.2 (count_of g + 1) (formula_of rule) m s lt (total e))))
 
-  pub nothing_found : (o : Option Item) → IfSome (item_tree o) (λ t. node_count t < 2 ^ 32) → misses words (item_tree o) ≡ true
-      → witnesses_in number rule item (item_graph o) env ≡ []
-  nothing_found None few h = absurd (cc)
-  nothing_found (Some (Parsed t)) few h = no_witness t few (not_false (has_words words t) h)
-  nothing_found (Some (Skipped span why)) few h = absurd (cc)
+  -- whatever is known of the types of the item's expressions
+  nothing_by : (items : List Item) (i : ℕ) (typed : Bool) (o : Option Item) → slice_get items i ≡ o → IfSome (item_tree o) (λ t. node_count t < 2 ^ 32)
+      → misses words (item_tree o) ≡ true → witnesses_in number rule item (graph_in typed items i) env ≡ []
+  nothing_by items i typed None e few h = absurd (cc)
+  nothing_by items i true (Some (Parsed t)) e few h =
+      ap (λ (o : Option Item). witnesses_in number rule item (option_map (typed_tree (scope_of (take i items))) (item_tree o)) env) e
+      ∙ no_witness t (item_types (scope_of (take i items)) t) few (not_false (has_words words t) h)
+  nothing_by items i false (Some (Parsed t)) e few h =
+      ap (λ (o : Option Item). witnesses_in number rule item (item_graph o) env) e ∙ no_witness t no_types few (not_false (has_words words t) h)
+  nothing_by items i typed (Some (Skipped span why)) e few h = absurd (cc)
+
+  pub nothing_found : (items : List Item) (i : ℕ) → IfSome (item_tree (slice_get items i)) (λ t. node_count t < 2 ^ 32)
+      → misses words (item_tree (slice_get items i)) ≡ true → witnesses_in number rule item (seen_graph rule items i) env ≡ []
+  nothing_found items i few h = nothing_by items i (ask_types rule.vars) (slice_get items i) refl few h

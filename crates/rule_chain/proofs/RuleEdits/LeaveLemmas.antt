@@ -8,7 +8,7 @@ use Rattle.edit_marks.specs.EditConflict.Clashes.{IsClash}
 use Rattle.edit_unparse.specs.Output.{output_of}
 use Rattle.edit_marks.specs.EditWalk.Edited.{AreEdits}
 use Rattle.cpp_lines.specs.declared.reading.Item.{Item}
-use Rattle.cfg_build.specs.declared.cfg_graph.label.NodeKind.{NodeKind}
+use Rattle.edit_marks.specs.declared.edit_walk.nodes.ItemNodes.{ItemNodes}
 use Rattle.smpl_patch.specs.declared.rule.Rule.{Rule}
 use Rattle.smpl_patch.specs.declared.witness.RuleWitness.{RuleWitness}
 use Rattle.rule_chain.specs.declared.rule_edits.texts.NewText.{NewText}
@@ -47,9 +47,9 @@ module _ (next : ℕ) (pieces : List TextPiece) (edits : List Edit) (apart : (c 
       (too_long apart (subst (λ (p : Page). 16777216 < length p.bytes) (sym after) long.1)))
 
 -- the same edits over lists that are equal
-pub are_edits : (found : List RuleWitness) (rule : Rule) (is items : List Item) (ks kinds : List (List NodeKind)) (ps pieces : List TextPiece)
-    (edits : List Edit) → is ≡ items → ks ≡ kinds → ps ≡ pieces → AreEdits found rule is ks ps edits → AreEdits found rule items kinds pieces edits
-are_edits found rule is items ks kinds ps pieces edits a k p h =
-    subst (λ (x : List Item). AreEdits found rule x kinds pieces edits) a
-    (subst (λ (x : List (List NodeKind)). AreEdits found rule is x pieces edits) k
+pub are_edits : (found : List RuleWitness) (rule : Rule) (is items : List Item) (ks nodes : List ItemNodes) (ps pieces : List TextPiece)
+    (edits : List Edit) → is ≡ items → ks ≡ nodes → ps ≡ pieces → AreEdits found rule is ks ps edits → AreEdits found rule items nodes pieces edits
+are_edits found rule is items ks nodes ps pieces edits a k p h =
+    subst (λ (x : List Item). AreEdits found rule x nodes pieces edits) a
+    (subst (λ (x : List ItemNodes). AreEdits found rule is x pieces edits) k
     (subst (λ (x : List TextPiece). AreEdits found rule is ks x edits) p h))

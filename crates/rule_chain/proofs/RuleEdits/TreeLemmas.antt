@@ -3,7 +3,7 @@ use Rattle.std.proofs.Common.{◌≡◌, ◌≤◌, ℕ, Bool, true, false, ◌|
 use Rattle.std.specs.List.{list_any, flat_map, AllZip}
 use Rattle.c_lexer.specs.Pieces.{TextPiece, text_of}
 use Rattle.cpp_lines.specs.declared.reading.Item.{Item}
-use Rattle.cfg_build.specs.declared.cfg_graph.label.NodeKind.{NodeKind}
+use Rattle.edit_marks.specs.declared.edit_walk.nodes.ItemNodes.{ItemNodes}
 use Rattle.edit_marks.specs.declared.edit_conflict.edit.Edit.{Edit}
 use Rattle.edit_marks.specs.EditConflict.Clashes.{IsClash}
 use Rattle.edit_marks.specs.declared.edit_conflict.clash.Clash.{Clash}
@@ -33,19 +33,19 @@ no_touches [] h = refl
 no_touches (w ∷ ws) h =
     ap (λ fs. flat_map (touches_in w.item w.env) fs ++ touches ws) (no_tree w.forest (or_no_left _ _ h)) ∙ no_touches ws (or_no_right _ _ h)
 
-no_edits : (found : List RuleWitness) (rule : Rule) (items : List Item) (kinds : List (List NodeKind)) (pieces : List TextPiece)
-    → list_any (λ w. not (is_empty w.forest)) found ≡ false → AreEdits found rule items kinds pieces []
-no_edits found rule items kinds pieces h = record {
+no_edits : (found : List RuleWitness) (rule : Rule) (items : List Item) (nodes : List ItemNodes) (pieces : List TextPiece)
+    → list_any (λ w. not (is_empty w.forest)) found ≡ false → AreEdits found rule items nodes pieces []
+no_edits found rule items nodes pieces h = record {
   all = [];
-  each = subst (λ (ts : List Touched). AllZip (IsEditAt rule items kinds pieces) ts []) (sym (no_touches found h)) tt;
+  each = subst (λ (ts : List Touched). AllZip (IsEditAt rule items nodes pieces) ts []) (sym (no_touches found h)) tt;
   distinct = refl;
 }
 
 apart : (c : Clash) → IsClash [] c → ⊥
 apart c h = let e = h.first_is in absurd (cc)
 
-pub nothing_leaves : (found : List RuleWitness) (rule : Rule) (items : List Item) (kinds : List (List NodeKind)) (next : ℕ) (pieces : List TextPiece)
+pub nothing_leaves : (found : List RuleWitness) (rule : Rule) (items : List Item) (nodes : List ItemNodes) (next : ℕ) (pieces : List TextPiece)
     → list_any (λ w. not (is_empty w.forest)) found ≡ false → length (text_of pieces) ≤ 16777216
-    → (edits : List Edit) × (AreEdits found rule items kinds pieces edits × Leaves next pieces edits None)
-nothing_leaves found rule items kinds next pieces h short =
-    ([], (no_edits found rule items kinds pieces h, leaves_old next pieces [] apart refl short))
+    → (edits : List Edit) × (AreEdits found rule items nodes pieces edits × Leaves next pieces edits None)
+nothing_leaves found rule items nodes next pieces h short =
+    ([], (no_edits found rule items nodes pieces h, leaves_old next pieces [] apart refl short))

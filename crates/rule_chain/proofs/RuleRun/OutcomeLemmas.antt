@@ -19,7 +19,7 @@ use Rattle.rule_chain.specs.RuleMatches.Matching.{rule_found, file_envs_after, h
 use Rattle.rule_chain.specs.declared.rule_edits.fault.EditFault.{EditFault}
 use Rattle.rule_chain.specs.declared.rule_edits.fault.EditFault.TheVariants as edit_faults
 use Rattle.rule_chain.specs.declared.rule_edits.texts.NewText.{NewText}
-use Rattle.rule_chain.specs.RuleEdits.Kinds.{kinds_of}
+use Rattle.rule_chain.specs.RuleEdits.Nodes.{nodes_of}
 use Rattle.rule_chain.specs.RuleEdits.Pages.{Page, IsNew}
 use Rattle.rule_chain.specs.RuleEdits.Faults.{AreFine, IsEditFault, Leaves}
 use Rattle.rule_chain.specs.declared.rule_run.state.FileState.{FileState}
@@ -80,16 +80,16 @@ module _ (defined : List (List ℕ)) (number : ℕ) (rule : Rule) (file : FileIt
         record { witnesses = too_much_as ∙ few; environments = omega (arith, e, most) }
 
     rule_edits : (ws passed : List RuleWitness) (edits : List Edit) → passed ≡ ws → map bare_witness ws ≡ found_here
-        → AreEdits passed rule file.items (kinds_of file.items) file.pieces edits → RuleEdits defined number rule s edits
+        → AreEdits passed rule file.items (nodes_of rule file.items) file.pieces edits → RuleEdits defined number rule s edits
     rule_edits ws passed edits same is are =
-        subst₃ (λ w its ps. AreEdits w rule its (kinds_of its) ps edits)
+        subst₃ (λ w its ps. AreEdits w rule its (nodes_of rule its) ps edits)
         (ap (map bare_witness) same ∙ is ∙ sym found_as) (sym reading.items) (sym reading.pieces)
-        (edits_with rule file.items (kinds_of file.items) file.pieces passed edits are)
+        (edits_with rule file.items (nodes_of rule file.items) file.pieces passed edits are)
 
   -- what is left
   pub rule_works : (ws passed : List RuleWitness) (cs : List FileEnv) (left : FileState) (text : Option NewText)
       → too_much_here ≡ false → map bare_witness ws ≡ found_here → map bare_file_env cs ≡ file_envs_here → length cs ≤ most_environments → passed ≡ ws
-      → ((edits : List Edit) × (AreEdits passed rule file.items (kinds_of file.items) file.pieces edits × Leaves next file.pieces edits text))
+      → ((edits : List Edit) × (AreEdits passed rule file.items (nodes_of rule file.items) file.pieces edits × Leaves next file.pieces edits text))
       → left.file_envs ≡ cs → left.had ≡ had_after f.had number ws → left.found ≡ f.found ++ ws
       → (s : Chained) → AreFindingsOf f s → IsAtReading file next s → IsOutcome defined number rule s left text
   rule_works ws passed cs left text few found carried most same e c h w s seen reading = record {
@@ -112,7 +112,7 @@ module _ (defined : List (List ℕ)) (number : ℕ) (rule : Rule) (file : FileIt
   pub edits_stop : (ws passed : List RuleWitness) (cs : List FileEnv) (fault : EditFault) (told : FileFault) → told ≡ edit_fault number fault
       → too_much_here ≡ false → map bare_witness ws ≡ found_here → map bare_file_env cs ≡ file_envs_here → length cs ≤ most_environments → passed ≡ ws
       → (fault ≡ edit_faults.NoMemory) ⊎ ((edits : List Edit)
-      × (AreEdits passed rule file.items (kinds_of file.items) file.pieces edits × IsEditFault next file.pieces edits fault))
+      × (AreEdits passed rule file.items (nodes_of rule file.items) file.pieces edits × IsEditFault next file.pieces edits fault))
       → (told ≡ NoMemory) ⊎ ((s : Chained) → AreFindingsOf f s → IsAtReading file next s → IsFault defined number rule s told)
   edits_stop ws passed cs fault told is few found carried most same (inl none) = inl (is ∙ ap (edit_fault number) none)
   edits_stop ws passed cs fault told is few found carried most same (inr e) = inr (λ s seen reading.

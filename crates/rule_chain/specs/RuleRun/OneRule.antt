@@ -8,7 +8,7 @@ use Rattle.rule_envs.specs.declared.file_env.FileEnv.{FileEnv}
 use Rattle.rule_envs.specs.FileEnvs.{most_environments}
 use Rattle.rule_chain.specs.declared.rule_edits.fault.EditFault.{EditFault}
 use Rattle.rule_chain.specs.declared.rule_edits.fault.EditFault.TheVariants as edit
-use Rattle.rule_chain.specs.RuleEdits.Kinds.{kinds_of}
+use Rattle.rule_chain.specs.RuleEdits.Nodes.{nodes_of}
 use Rattle.rule_chain.specs.RuleEdits.Pages.{is_edited, page_after}
 use Rattle.rule_chain.specs.RuleEdits.Faults.{AreFine, IsEditFault}
 use Rattle.rule_chain.specs.RuleMatches.Matching.{rule_found, file_envs_after, has_too_many}
@@ -53,7 +53,7 @@ module _ (defined : List (List ℕ)) (number : ℕ) (rule : Rule) (s : Chained) 
 
   -- the edits of all its witnesses
   abbrev pub RuleEdits : List Edit → Type 0
-  RuleEdits = AreEdits file_witnesses rule s.items (kinds_of s.items) s.pieces
+  RuleEdits = AreEdits file_witnesses rule s.items (nodes_of rule s.items) s.pieces
 
   -- what it leaves if it meets no fault; the pieces and items are still those of the last reading
   abbrev pub state_after : List Edit → Chained

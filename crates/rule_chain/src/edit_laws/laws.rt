@@ -3,10 +3,10 @@ ghost use Rattle.std.specs.Prelude.{◌≡◌, ◌↔◌, true, List, All, map};
 ghost use Rattle.std.specs.List.{list_all};
 ghost use Rattle.c_lexer.specs.Pieces.{TextPiece};
 ghost use Rattle.cpp_lines.specs.declared.reading.Item.{Item};
-ghost use Rattle.cfg_build.specs.declared.cfg_graph.label.NodeKind.{NodeKind};
 ghost use Rattle.smpl_patch.specs.declared.rule.Rule.{Rule};
 ghost use Rattle.smpl_patch.specs.declared.witness.RuleWitness.{RuleWitness};
 ghost use Rattle.edit_marks.specs.declared.edit_conflict.edit.Edit.{Edit};
+ghost use Rattle.edit_marks.specs.declared.edit_walk.nodes.ItemNodes.{ItemNodes};
 ghost use Rattle.edit_marks.specs.Edits.{ArePlainInserts};
 ghost use Rattle.edit_unparse.specs.Fair.{has_plain_inserts};
 ghost use Rattle.edit_marks.specs.EditWalk.Edited.{AreEdits};
@@ -21,7 +21,7 @@ pub fn plain_inserts_are_fair()
 /// Witnesses have the same edits when each id of their values' tokens is replaced by 0.
 pub fn ids_of_values_do_not_count()
     ensures { (witnesses : List RuleWitness) (rule : Rule) (items : List Item)
-        (kinds : List (List NodeKind)) (pieces : List TextPiece) (edits : List Edit) →
-        AreEdits (map bare_witness witnesses) rule items kinds pieces edits ↔
-        AreEdits witnesses rule items kinds pieces edits }
+        (nodes : List ItemNodes) (pieces : List TextPiece) (edits : List Edit) →
+        AreEdits (map bare_witness witnesses) rule items nodes pieces edits ↔
+        AreEdits witnesses rule items nodes pieces edits }
 {}

@@ -1,6 +1,7 @@
 // The items in which a rule may find something.
-ghost use Rattle.std.specs.Prelude.{◌≡◌, ◌<◌, ◌≤◌, ◌^◌, ℕ, IfOk, IfSome, OnOk, Some, true, false, length, slice_get};
+ghost use Rattle.std.specs.Prelude.{◌≡◌, ◌<◌, ◌≤◌, ◌^◌, ℕ, Bool, IfOk, IfSome, OnOk, Some, true, false, length, slice_get};
 ghost use Rattle.cfg_build.specs.Graphs.{node_count};
+ghost use Rattle.smpl_patch.specs.Wants.{ask_types};
 ghost use Rattle.ctl_translate.specs.Answers.{IsFormulaOf};
 ghost use Rattle.c_file.specs.ItemGraphs.Made.{IsMade};
 ghost use Rattle.c_file.specs.ItemGraphs.Trees.{item_tree};
@@ -11,7 +12,7 @@ use c_file::Graphs;
 use c_terms::{NoMemory, Text};
 use ctl_fixpoint::{may_hold, needed_words};
 use ctl_formula::Formula;
-use smpl_patch::Rule;
+use smpl_patch::{Rule, ask_types};
 use sqlite_items::Items;
 use std::alloc::Global;
 
@@ -43,7 +44,7 @@ fn lacks_word(words: &[Text], graphs: &Graphs<'_>, i: usize) -> bool
 }
 
 /// Whether something may be found in the item: it has a tree, which has each of these words that the formula needs. If so,
-/// makes the graph of the item unless it is already made.
+/// makes the graph of the item, with types if the rule asks for them, unless it is already made.
 fn may_find(
     alloc: Global,
     rule: &Rule,
@@ -55,16 +56,17 @@ fn may_find(
     requires formula { IsFormulaOf rule.now f.now }
     requires needed { AreNeeded words.now f.now }
     requires within { i < length graphs.old.items }
-    ensures made { IfOk result (λ may. may ≡ true → IsMade graphs.new i) }
+    ensures made { IfOk result (λ may. may ≡ true → IsMade graphs.new (ask_types rule.now.vars) i) }
     ensures nothing { IfOk result (λ may. may ≡ false → FindsNothing rule.now graphs.old.items i) }
     ensures items { graphs.new.items ≡ graphs.old.items }
-    ensures kept { (k : ℕ) → IsMade graphs.old k → IsMade graphs.new k }
+    ensures kept { (typed : Bool) (k : ℕ) → IsMade graphs.old typed k → IsMade graphs.new typed k }
 {
     if lacks_word(words, graphs, i) {
         return Ok(false);
     }
-    graphs.make(alloc, i)?;
-    match graphs.get(i) {
+    let typed = ask_types(rule.vars.as_slice());
+    graphs.make(alloc, typed, i)?;
+    match graphs.get(typed, i) {
         None => Ok(false),
         Some(_) => Ok(true),
     }
@@ -83,11 +85,11 @@ pub fn candidate_items(
 ) -> Result<Vec<bool>, NoMemory>
     requires formula { IsFormulaOf rule.now f.now }
     requires count { count ≡ length graphs.old.items }
-    ensures ready { IfOk result (λ chosen. AreReady graphs.new chosen.items) }
+    ensures ready { IfOk result (λ chosen. AreReady graphs.new (ask_types rule.now.vars) chosen.items) }
     ensures chosen { IfOk result (λ chosen. AreChosen rule.now graphs.old.items chosen.items) }
     ensures few { OnOk result (count ≤ 2 ^ 32) }
     ensures items { graphs.new.items ≡ graphs.old.items }
-    ensures kept { (k : ℕ) → IsMade graphs.old k → IsMade graphs.new k }
+    ensures kept { (typed : Bool) (k : ℕ) → IsMade graphs.old typed k → IsMade graphs.new typed k }
 {
     if count > MOST_ITEMS {
         return Err(NoMemory);

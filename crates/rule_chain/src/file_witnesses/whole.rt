@@ -1,5 +1,5 @@
 // What a rule finds over all items.
-ghost use Rattle.std.specs.Prelude.{◌≡◌, ◌<◌, ◌≤◌, ◌^◌, ◌++◌, ◌∷◌, [], ℕ, All, IfOk, OnOk, Err, List, map, length, true, false};
+ghost use Rattle.std.specs.Prelude.{◌≡◌, ◌<◌, ◌≤◌, ◌^◌, ◌++◌, ◌∷◌, [], ℕ, Bool, All, IfOk, OnOk, Err, List, map, length, true, false};
 ghost use Rattle.std.specs.List.{flat_map};
 ghost use Rattle.cpp_lines.specs.declared.reading.Item.{Item};
 ghost use Rattle.env_parts.specs.Parts.{bare_env};
@@ -21,7 +21,7 @@ use c_terms::NoMemory;
 use cfg_build::Graph;
 use par_match::{Gate, Workers};
 use rule_envs::exported;
-use smpl_patch::RuleWitness;
+use smpl_patch::{RuleWitness, ask_types};
 use smpl_terms::{Env, Var};
 use sqlite_items::Items;
 use std::alloc::Global;
@@ -88,7 +88,7 @@ fn over_items<R: Threads + Sync, G: Gate>(
     ensures too_many { result ≡ Err fault.TooMany
         → IsLargeSomewhere (spec.is_large_under ready.now.number ready.now.rule.now graphs.old.items) envs.now }
     ensures items { graphs.new.items ≡ graphs.old.items }
-    ensures kept { (k : ℕ) → IsMade graphs.old k → IsMade graphs.new k }
+    ensures kept { (typed : Bool) (k : ℕ) → IsMade graphs.old typed k → IsMade graphs.new typed k }
 {
     if envs.is_empty() {
         return Ok(Vec::new(workers.alloc));
@@ -100,7 +100,8 @@ fn over_items<R: Threads + Sync, G: Gate>(
         graphs,
         count,
     )?;
-    let lent = lend(workers.alloc, graphs, chosen.as_slice())?;
+    let typed = ask_types(ready.rule.vars.as_slice());
+    let lent = lend(workers.alloc, graphs, typed, chosen.as_slice())?;
     over_lent(workers, ready, lent.as_slice(), envs)
 }
 
@@ -137,7 +138,7 @@ fn joined(
 /// needs, one [`item_witnesses`](crate::rule_witnesses::item_witnesses) for each projection and each item in which the formula
 /// holds somewhere, both shared among the jobs, and one [`exported`] per projection. Each other item costs, per projection, a
 /// job that returns an empty list. The words are looked for once in the formula, and once among the tokens of each item. The
-/// graph of an item is made when it is first needed.
+/// graph of an item is made when it is first needed, with the types of the item's expressions if the rule asks for them.
 ///
 /// If there is more than one projection, the sets of items in which the formula holds somewhere are kept to the end: those of
 /// the first items, as many as have at most 16,777,216 sets in all. There is one set for each part of the formula and each
@@ -160,7 +161,7 @@ pub fn witnesses<R: Threads + Sync, G: Gate>(
     ensures too_many { result ≡ Err fault.TooMany
         → spec.has_too_many ready.now.number ready.now.rule.now graphs.old.items (map bare_env projections.now) ≡ true }
     ensures items { graphs.new.items ≡ graphs.old.items }
-    ensures kept { (k : ℕ) → IsMade graphs.old k → IsMade graphs.new k }
+    ensures kept { (typed : Bool) (k : ℕ) → IsMade graphs.old typed k → IsMade graphs.new typed k }
 {
     let lists = over_items(workers, ready, graphs, count, projections)?;
     let found = joined(workers.alloc, ready.rule.exports.as_slice(), lists)?;

@@ -1,5 +1,5 @@
 // Applies the edits of a rule to the text.
-ghost use Rattle.std.specs.Prelude.{◌≡◌, ◌<◌, ◌≤◌, ◌^◌, ◌⊎◌, ℕ, List, None, Some, All, IfOk, IfErr, length, slice_get, not, nat_lt};
+ghost use Rattle.std.specs.Prelude.{◌≡◌, ◌<◌, ◌≤◌, ◌^◌, ◌⊎◌, ℕ, Bool, List, None, Some, All, IfOk, IfErr, length, slice_get, not, nat_lt};
 ghost use Rattle.std.specs.List.{filter, list_any};
 ghost use Rattle.c_lexer.specs.Pieces.{text_of, most_bytes};
 ghost use Rattle.c_lexer.specs.Ids.{ids_of};
@@ -10,13 +10,13 @@ ghost use Rattle.edit_marks.specs.EditWalk.Edited.{AreEdits};
 ghost use Rattle.edit_marks.specs.EditWalk.Fit.{FitsText};
 ghost use Rattle.edit_marks.specs.Edits.{HaveEvenBlocks};
 ghost use Rattle.c_file.specs.ItemGraphs.Made.{IsMade};
-ghost use Rattle.rule_chain.specs.RuleEdits.Kinds.{kinds_of};
+ghost use Rattle.rule_chain.specs.RuleEdits.Nodes.{nodes_of};
 ghost use Rattle.rule_chain.specs.RuleEdits.Pages as spec;
 ghost use Rattle.rule_chain.specs.RuleEdits.Faults.{Leaves, IsEditFault};
 ghost use Rattle.rule_chain.specs.declared.rule_edits.fault.EditFault.TheVariants as fault;
 
 use crate::rule_edits::fault::EditFault;
-use crate::rule_edits::kinds::kinds;
+use crate::rule_edits::nodes::{make_all, nodes};
 use c_file::{CFile, Graphs};
 use c_lexer::{Lexed, PieceKind};
 use edit_marks::{Clash, Edit, EditList, edits, first_clash};
@@ -168,9 +168,9 @@ fn text_after(
 /// - `TooLong`: none clash, and the text would have more than 16,777,216 bytes.
 /// - `NoMemory`: out of memory.
 ///
-/// If the forest of some witness has a tree, the graphs of all items are made, and the cost is linear in the text, apart from
-/// that of the edits. No forest has a tree if no token of the rule is marked and all its variables are inherited or exported:
-/// then nothing is edited, and the cost is linear in the witnesses.
+/// If the forest of some witness has a tree, the graphs of all items are made, with types if the rule asks for them, and the
+/// cost is linear in the text, apart from that of the edits. No forest has a tree if no token of the rule is marked and all its
+/// variables are inherited or exported: then nothing is edited, and the cost is linear in the witnesses.
 pub fn text_after_edits(
     alloc: Global,
     rule: &Rule,
@@ -183,24 +183,26 @@ pub fn text_after_edits(
     requires fresh { next ≤ 2 ^ 62 }
     requires items { graphs.old.items ≡ file.now.items }
     ensures text { IfOk result (λ left. (edits : List Change)
-        × (AreEdits found.now rule.now file.now.items (kinds_of file.now.items) file.now.pieces edits
+        × (AreEdits found.now rule.now file.now.items (nodes_of rule.now file.now.items) file.now.pieces edits
         × Leaves next file.now.pieces edits left)) }
     ensures fault { IfErr result (λ f. (f ≡ fault.NoMemory) ⊎ ((edits : List Change)
-        × (AreEdits found.now rule.now file.now.items (kinds_of file.now.items) file.now.pieces edits
+        × (AreEdits found.now rule.now file.now.items (nodes_of rule.now file.now.items) file.now.pieces edits
         × IsEditFault next file.now.pieces edits f))) }
     ensures graphs { graphs.new.items ≡ graphs.old.items }
-    ensures kept { (k : ℕ) → IsMade graphs.old k → IsMade graphs.new k }
+    ensures kept { (typed : Bool) (k : ℕ) → IsMade graphs.old typed k → IsMade graphs.new typed k }
 {
     if !has_tree(found) {
         return Ok(nothing_new(file.lexed()));
     }
-    let kinds = kinds(alloc, graphs, file.items().len())?;
+    let count = file.items().len();
+    make_all(alloc, rule, graphs, count)?;
+    let nodes = nodes(alloc, rule, graphs, count)?;
     let list = edits(
         alloc,
         found,
         rule,
         file.items(),
-        kinds.as_slice(),
+        nodes.as_slice(),
         file.lexed(),
     )?;
     text_after(alloc, file.lexed(), list, next)

@@ -1,5 +1,5 @@
 // What a rule finds, and the environments after it.
-ghost use Rattle.std.specs.Prelude.{◌≡◌, ◌<◌, ◌≤◌, ℕ, All, IfOk, OnOk, Err, map, length, true, false};
+ghost use Rattle.std.specs.Prelude.{◌≡◌, ◌<◌, ◌≤◌, ℕ, Bool, All, IfOk, OnOk, Err, map, length, true, false};
 ghost use Rattle.c_file.specs.ItemGraphs.Made.{IsMade};
 ghost use Rattle.rule_envs.specs.Shares.{bare_file_env};
 ghost use Rattle.rule_envs.specs.FileEnvs.{most_environments};
@@ -58,7 +58,7 @@ pub fn match_rule<R: Threads + Sync, G: Gate>(
         × (most_environments < length
         (spec.file_envs_after ready.now.defined.now had.now ready.now.number ready.now.rule.now graphs.old.items (map bare_file_env file_envs.now))) }
     ensures items { graphs.new.items ≡ graphs.old.items }
-    ensures kept { (k : ℕ) → IsMade graphs.old k → IsMade graphs.new k }
+    ensures kept { (typed : Bool) (k : ℕ) → IsMade graphs.old typed k → IsMade graphs.new typed k }
 {
     let projected = projections(
         workers.alloc,

@@ -1,5 +1,5 @@
 // Runs one rule over one reading of a file.
-ghost use Rattle.std.specs.Prelude.{◌≡◌, ◌⊎◌, ◌++◌, ℕ, IfOk, IfErr};
+ghost use Rattle.std.specs.Prelude.{◌≡◌, ◌⊎◌, ◌++◌, ℕ, Bool, IfOk, IfErr};
 ghost use Rattle.c_file.specs.ItemGraphs.Made.{IsMade};
 ghost use Rattle.rule_chain.specs.RuleRun.States.{Chained};
 ghost use Rattle.rule_chain.specs.RuleRun.OneRule as spec;
@@ -93,7 +93,7 @@ pub fn run_rule<R: Threads + Sync, G: Gate>(
         → IsAtReading reading.now.file.now reading.now.next s
         → spec.IsFault ready.now.defined.now ready.now.number ready.now.rule.now s f)) }
     ensures graphs { graphs.new.items ≡ graphs.old.items }
-    ensures kept { (k : ℕ) → IsMade graphs.old k → IsMade graphs.new k }
+    ensures kept { (typed : Bool) (k : ℕ) → IsMade graphs.old typed k → IsMade graphs.new typed k }
 {
     let FileState {
         file_envs,

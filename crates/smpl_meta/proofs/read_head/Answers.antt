@@ -1,7 +1,7 @@
 use Rattle.std.proofs.Common.{◌≡◌, List, Option, None, inr, sym, ap, ◌∙◌}
 use Rattle.smpl_patch.specs.Faults.{first_from}
 use Rattle.smpl_lexer.specs.declared.token.PatchToken.{PatchToken}
-use Rattle.smpl_meta.specs.Decls.{decl_faults, vars_of}
+use Rattle.smpl_meta.specs.Decls.{decl_faults}
 use Rattle.smpl_meta.specs.Heads.{name_token, name_fault, depends_tokens, unknown_faults}
 use Rattle.smpl_meta.proofs.HeadLemmas.{head_first, head_is}
 use Rattle.smpl_meta.proofs.read_head.Goals as goal
@@ -17,9 +17,9 @@ returns-in-Some-clause-fault c =
     let unknown : c.with_unknown-first.result ≡ first_from c.with_name-first.result (unknown_faults vs earlier (depends_tokens r.header))
     = c.with_unknown-first.ensures ∙ ap (λ (ts : List PatchToken). first_from c.with_name-first.result (unknown_faults vs earlier ts))
     (c.depends_tokens.ensures ∙ ap depends_tokens c.as_slice-header.ensures) in
-    let decls : c.in_ok-vars.field-0.first ≡ first_from c.with_unknown-first.result (decl_faults earlier r.decls)
-    = c.in_ok-vars.ensures.first ∙ ap (λ (ts : List PatchToken). first_from c.with_unknown-first.result (decl_faults earlier ts)) c.as_slice.ensures in
-    inr (sym (head_first vs earlier r _ _ _ name unknown decls) ∙ c.in-Some.is)
+    let d = rw c.as_slice.ensures at c.in_ok-vars.ensures.declared in
+    let decls : c.in_ok-vars.field-0.first ≡ first_from c.with_unknown-first.result (decl_faults earlier d.answers r.decls) = d.first_is in
+    inr (record { answers = d.answers; read = d.read; first = sym (head_first vs earlier d.answers r _ _ _ name unknown decls) ∙ c.in-Some.is })
 
 pub returns-in_ok-made_head-in-None-clause-head : goal.returns-in_ok-made_head-in-None-clause-head
 returns-in_ok-made_head-in-None-clause-head c =
@@ -32,9 +32,7 @@ returns-in_ok-made_head-in-None-clause-head c =
     let unknown : c.with_unknown-first.result ≡ first_from c.with_name-first.result (unknown_faults vs earlier (depends_tokens r.header))
     = c.with_unknown-first.ensures ∙ ap (λ (ts : List PatchToken). first_from c.with_name-first.result (unknown_faults vs earlier ts))
     (c.depends_tokens.ensures ∙ ap depends_tokens c.as_slice-header.ensures) in
-    let decls : c.in_ok-vars.field-0.first ≡ first_from c.with_unknown-first.result (decl_faults earlier r.decls)
-    = c.in_ok-vars.ensures.first ∙ ap (λ (ts : List PatchToken). first_from c.with_unknown-first.result (decl_faults earlier ts)) c.as_slice.ensures in
-    head_is vs earlier c.args.rule r c.in_ok-vars.field-0.vars c.in_ok-made_head-in-None.field-0
-    (sym (head_first vs earlier r _ _ _ name unknown decls) ∙ c.in-None.is)
-    (c.in_ok-vars.ensures.vars ∙ ap (λ (ts : List PatchToken). vars_of earlier c.args.rule ts) c.as_slice.ensures)
-    c.in_ok-made_head-in-None.ensures
+    let d = rw c.as_slice.ensures at c.in_ok-vars.ensures.declared in
+    let decls : c.in_ok-vars.field-0.first ≡ first_from c.with_unknown-first.result (decl_faults earlier d.answers r.decls) = d.first_is in
+    head_is vs earlier c.args.rule d.answers r c.in_ok-vars.field-0.vars c.in_ok-made_head-in-None.field-0 d.read
+    (sym (head_first vs earlier d.answers r _ _ _ name unknown decls) ∙ c.in-None.is) d.vars_are c.in_ok-made_head-in-None.ensures

@@ -1,8 +1,13 @@
 -- The declarations of a rule have no more items than tokens, and an item has no more exclusions than tokens.
 use Rattle.std.proofs.Common.{◌≡◌, ℕ, suc, ◌+◌, ◌≤◌, Bool, true, false, refl, sym, ap, ◌∙◌, subst, arith, List, [], ◌∷◌, ◌++◌}
-use Rattle.std.proofs.Common.{length, Option, Some, None, if◌then◌else◌, drop, codes, option_map}
-use Rattle.std.specs.Prelude.{option_and_then, ◌&&◌, not}
-use Rattle.std.proofs.lemmas.List.{length-append}
+use Rattle.std.proofs.Common.{inl, inr, slice_get, length, Option, Some, None, if◌then◌else◌, drop, codes, option_map}
+use Rattle.std.specs.Prelude.{option_and_then, eqb, ◌&&◌, not}
+use Rattle.std.specs.List.{AllZip}
+use Rattle.c_terms.specs.declared.token.MetaKind.TheVariants as meta
+use Rattle.smpl_patch.specs.declared.wanted.NameWanted.{NameWanted}
+use Rattle.smpl_patch.specs.declared.wanted.Wanted.{Wanted}
+use Rattle.std.proofs.lemmas.List.{length-append, length-drop}
+use Rattle.smpl_patch.specs.Wants.{anything}
 use Rattle.smpl_patch.specs.declared.pattern.VarDecl.{VarDecl}
 use Rattle.smpl_patch.specs.declared.pattern.VarKind.{VarKind}
 use Rattle.smpl_patch.specs.declared.pattern.VarKind.TheVariants.{Meta, Position}
@@ -16,8 +21,12 @@ use Rattle.smpl_meta.specs.declared.item.DeclKind.TheVariants.{Var, Symbol}
 use Rattle.smpl_meta.specs.Known.{var_of}
 use Rattle.smpl_meta.specs.Forms.{put, parts, within_after, chunks, before_sign, plain_of, named_of, not_of, all_of, one_not}
 use Rattle.smpl_meta.specs.Forms.{nots_between, braced, nots_of, excepted_of, bare_item, item_of, is_listed, kind_of}
-use Rattle.smpl_meta.specs.Forms.{list_kind_of, items_by, front_items, declared}
-use Rattle.smpl_meta.specs.Decls.{items_or_none, items_of, texts_of, names_not, var_in, place_not, places_not, inherited_from, var_by, vars_in, vars_of_items}
+use Rattle.smpl_meta.specs.Forms.{list_kind_of, items_by, kind_items, plain_item, count_stars, pointer_to, pointer_item, expression_item}
+use Rattle.smpl_meta.specs.TypeNames.{with_type_names}
+use Rattle.smpl_meta.specs.Typed.{with_name, declarators, depth_after}
+use Rattle.smpl_meta.specs.Declarations.{IsDeclared, AreDeclared, items_or_none}
+use Rattle.smpl_meta.proofs.TypedItems.{wanted_item, Sources, declares}
+use Rattle.smpl_meta.specs.Decls.{AreAnswers, items_of, texts_of, names_not, var_in, place_not, places_not, inherited_from, var_by, vars_in, vars_of_items}
 use Rattle.sound_laws.proofs.SmplSound.FormLemmas.{then-made, map-made}
 
 -- ---- lists of tokens, taken apart
@@ -102,8 +111,8 @@ HasNots n i = length i.nots ≤ n
 excepted_long : (k : DeclKind) (ts : List PatchToken) (x : Named) (i : Item) → excepted_of k ts x ≡ Some i → HasNots (1 + length ts) i
 excepted_long Symbol ts x i e = let no : ⊥ = cc in absurd no
 excepted_long (Var k) ts x i e =
-    let m = map-made (λ nots. record { kind = Var k; named = x; nots = nots }) (nots_of k ts) i e in
-    let same : record { kind = Var k; named = x; nots = m.from } ≡ i = let g = m.gives in cc in
+    let m = map-made (λ nots. record { kind = Var k; named = x; nots = nots; wanted = anything }) (nots_of k ts) i e in
+    let same : record { kind = Var k; named = x; nots = m.from; wanted = anything } ≡ i = let g = m.gives in cc in
     subst (HasNots (1 + length ts)) same (nots_long k ts m.from m.is)
 
 bare_long : (n : ℕ) (k : DeclKind) (ts : List PatchToken) (i : Item) → option_map (bare_item k) (named_of ts) ≡ Some i → HasNots n i
@@ -112,15 +121,42 @@ bare_long n k ts i e =
     let same : bare_item k m.from ≡ i = let g = m.gives in cc in
     subst (HasNots n) same (omega arith)
 
-item_by : (k : DeclKind) (x y : PatchToken) (ts : List PatchToken) (i : Item) (b : Bool)
+plain_by : (k : DeclKind) (x y : PatchToken) (ts : List PatchToken) (i : Item) (b : Bool)
     → (if b then option_and_then (excepted_of k ts) (plain_of x) else option_map (bare_item k) (named_of (x ∷ y ∷ ts))) ≡ Some i → HasNots (1 + length ts) i
-item_by k x y ts i true e = let m = then-made (excepted_of k ts) (plain_of x) i e in excepted_long k ts m.from i m.gives
-item_by k x y ts i false e = bare_long (1 + length ts) k (x ∷ y ∷ ts) i e
+plain_by k x y ts i true e = let m = then-made (excepted_of k ts) (plain_of x) i e in excepted_long k ts m.from i m.gives
+plain_by k x y ts i false e = bare_long (1 + length ts) k (x ∷ y ∷ ts) i e
+
+plain_long : (k : DeclKind) (ts : List PatchToken) (i : Item) → plain_item k ts ≡ Some i → HasNots (length ts) i
+plain_long k [] i e = bare_long 0 k [] i e
+plain_long k (x ∷ []) i e = bare_long 1 k (x ∷ []) i e
+plain_long k (x ∷ y ∷ ts) i e = omega (arith, plain_by k x y ts i (is_sign (codes "!=") y) e)
+
+pointer_long : (m n : ℕ) (ts : List PatchToken) (i : Item) → pointer_item n ts ≡ Some i → HasNots m i
+pointer_long m n [] i e = let no : ⊥ = cc in absurd no
+pointer_long m n (x ∷ []) i e =
+    let made = map-made (pointer_to n) (plain_of x) i e in
+    let same : pointer_to n made.from ≡ i = let g = made.gives in cc in
+    subst (HasNots m) same (omega arith)
+pointer_long m n (x ∷ y ∷ ts) i e = let no : ⊥ = cc in absurd no
+
+expression_by : (ts : List PatchToken) (i : Item) (b : Bool)
+    → (if b then plain_item (Var (Meta meta.Expr)) ts else pointer_item (count_stars ts) (drop (count_stars ts) ts)) ≡ Some i → HasNots (length ts) i
+expression_by ts i true e = plain_long (Var (Meta meta.Expr)) ts i e
+expression_by ts i false e = pointer_long (length ts) (count_stars ts) (drop (count_stars ts) ts) i e
+
+expression_long : (ts : List PatchToken) (i : Item) → expression_item ts ≡ Some i → HasNots (length ts) i
+expression_long ts i e = expression_by ts i (eqb (count_stars ts) 0) e
 
 item_long : (k : DeclKind) (ts : List PatchToken) (i : Item) → item_of k ts ≡ Some i → HasNots (length ts) i
-item_long k [] i e = bare_long 0 k [] i e
-item_long k (x ∷ []) i e = bare_long 1 k (x ∷ []) i e
-item_long k (x ∷ y ∷ ts) i e = omega (arith, item_by k x y ts i (is_sign (codes "!=") y) e)
+item_long Symbol ts i e = plain_long Symbol ts i e
+item_long (Var Position) ts i e = plain_long (Var Position) ts i e
+item_long (Var (Meta meta.Expr)) ts i e = expression_long ts i e
+item_long (Var (Meta meta.Ident)) ts i e = plain_long (Var (Meta meta.Ident)) ts i e
+item_long (Var (Meta meta.Constant)) ts i e = plain_long (Var (Meta meta.Constant)) ts i e
+item_long (Var (Meta meta.Typ)) ts i e = plain_long (Var (Meta meta.Typ)) ts i e
+item_long (Var (Meta meta.Stmt)) ts i e = plain_long (Var (Meta meta.Stmt)) ts i e
+item_long (Var (Meta meta.ExprList)) ts i e = plain_long (Var (Meta meta.ExprList)) ts i e
+item_long (Var (Meta meta.Params)) ts i e = plain_long (Var (Meta meta.Params)) ts i e
 
 -- ---- items
 
@@ -168,26 +204,87 @@ front_by : (t : PatchToken) (ts : List PatchToken) (is : List Item) (b : Bool)
 front_by t ts is true e = wider (1 + length (drop 1 ts)) (1 + length ts) is (omega (arith, drop_short ts)) (items_few (list_kind_of t) (drop 1 ts) is e)
 front_by t ts is false e = items_few (kind_of t) ts is e
 
-front_few : (ts : List PatchToken) (is : List Item) → front_items ts ≡ Some is → FewItems (length ts) is
-front_few [] is e = let no : ⊥ = cc in absurd no
-front_few (t ∷ ts) is e = wider (1 + length ts) (length (t ∷ ts)) is (omega arith) (front_by t ts is (is_listed ts) e)
+kind_few : (ts : List PatchToken) (is : List Item) → kind_items ts ≡ Some is → FewItems (length ts) is
+kind_few [] is e = let no : ⊥ = cc in absurd no
+kind_few (t ∷ ts) is e = wider (1 + length ts) (length (t ∷ ts)) is (omega arith) (front_by t ts is (is_listed ts) e)
 
-declared_few : (part : List PatchToken) (o : Option (List Item)) → declared part ≡ o → FewItems (length part) (items_or_none o)
-declared_few part None e = record { count = omega arith; nots = tt }
-declared_few part (Some is) e =
-    let m = then-made front_items (before_sign (codes ";") part) is e in
-    wider (length m.from) (length part) is (omega (arith, before_long (codes ";") part m.from m.is)) (front_few m.from is m.gives)
+-- ---- declarators
 
-all_few : (ps : List (List PatchToken)) → FewItems (sizes ps) (items_of ps)
-all_few [] = record { count = omega arith; nots = tt }
-all_few (p ∷ ps) =
-    let one = declared_few p (declared p) refl in
-    let rest = all_few ps in
+abbrev FewNots : List PatchToken → Item → Type 0
+FewNots ts i = HasNots (length ts) i
+
+typed_few : (ts : List PatchToken) (k : ℕ) (t : PatchToken) (x : Named) (w : Wanted)
+    → slice_get ts k ≡ Some t → plain_of t ≡ Some x → FewNots ts (wanted_item w x)
+typed_few ts k t x w e f = omega arith
+
+untyped_few : (ts : List PatchToken) (name : NameWanted) (i : Item) → expression_item ts ≡ Some i → FewNots ts (with_name name i)
+untyped_few ts wanted i e = expression_long ts i e
+
+declarators_long : (depth : ℕ) (ts : List PatchToken) → length (declarators depth ts) ≤ 1 + length ts
+declarators_long depth [] = omega arith
+declarators_long depth (t ∷ ts) =
+    by (eqb depth 0 && is_sign (codes ",") t) (declarators_long depth ts) (declarators_long (depth_after depth t) ts)
+  where
+    by : (b : Bool) → length (declarators depth ts) ≤ 1 + length ts → length (declarators (depth_after depth t) ts) ≤ 1 + length ts
+        → length (if b then [] ∷ declarators depth ts else put t (declarators (depth_after depth t) ts)) ≤ 1 + suc (length ts)
+    by true h g = omega (arith, h)
+    by false h g = omega (arith, g, put_long t (declarators (depth_after depth t) ts))
+
+declarators_sizes : (depth : ℕ) (ts : List PatchToken) → sizes (declarators depth ts) ≤ length ts
+declarators_sizes depth [] = omega arith
+declarators_sizes depth (t ∷ ts) =
+    by (eqb depth 0 && is_sign (codes ",") t) (declarators_sizes depth ts) (declarators_sizes (depth_after depth t) ts)
+  where
+    by : (b : Bool) → sizes (declarators depth ts) ≤ length ts → sizes (declarators (depth_after depth t) ts) ≤ length ts
+        → sizes (if b then [] ∷ declarators depth ts else put t (declarators (depth_after depth t) ts)) ≤ suc (length ts)
+    by true h g = omega (arith, h)
+    by false h g = omega (arith, g, put_sizes t (declarators (depth_after depth t) ts))
+
+zip_long : (ds : List (List PatchToken)) (is : List Item) → AllZip FewNots ds is → length is ≡ length ds
+zip_long [] [] a = refl
+zip_long [] (i ∷ is) a = absurd a
+zip_long (d ∷ ds) [] a = absurd a
+zip_long (d ∷ ds) (i ∷ is) a = ap suc (zip_long ds is a.1)
+
+zip_nots : (ds : List (List PatchToken)) (is : List Item) → AllZip FewNots ds is → AllNots (sizes ds) is
+zip_nots [] [] a = tt
+zip_nots [] (i ∷ is) a = absurd a
+zip_nots (d ∷ ds) [] a = absurd a
+zip_nots (d ∷ ds) (i ∷ is) a =
+    (omega (arith, a.0), more_nots (sizes ds) (length d + sizes ds) is (omega arith) (zip_nots ds is a.1))
+
+drop_few : (n : ℕ) (ts : List PatchToken) → length (drop n ts) ≤ length ts
+drop_few n ts = omega (arith, length-drop n ts)
+
+front_few : (ts : List PatchToken) (is : List Item) → Sources FewNots typed_few untyped_few ts is → FewItems (1 + length ts) is
+front_few ts is (inl e) = wider (length ts) (1 + length ts) is (omega arith) (kind_few ts is e)
+front_few ts is (inr o) =
+    let rest = drop o.skipped ts in
+    let ds = declarators 0 rest in
+    record {
+      count = omega (arith, zip_long ds is o.each, declarators_long 0 rest, drop_few o.skipped ts);
+      nots = more_nots (sizes ds) (1 + length ts) is (omega (arith, declarators_sizes 0 rest, drop_few o.skipped ts)) (zip_nots ds is o.each);
+    }
+
+declared_few : (types : List (List ℕ)) (part : List PatchToken) (o : Option (List Item)) → IsDeclared types part o → FewItems (length part) (items_or_none o)
+declared_few types part None e = record { count = omega arith; nots = tt }
+declared_few types part (Some is) e =
+    let d = declares FewNots typed_few untyped_few types part is e in
+    wider (1 + length d.front) (length part) is (omega (arith, before_long (codes ";") part d.front d.is)) (front_few d.front is d.from)
+
+all_few : (types : List (List ℕ)) (ps : List (List PatchToken)) (answers : List (Option (List Item))) → AreDeclared types ps answers
+    → FewItems (sizes ps) (items_of answers)
+all_few types [] [] a = record { count = omega arith; nots = tt }
+all_few types [] (o ∷ more) a = absurd a
+all_few types (p ∷ ps) [] a = absurd a
+all_few types (p ∷ ps) (o ∷ more) a =
+    let one = declared_few types p o a.0 in
+    let rest = all_few (with_type_names types (items_or_none o)) ps more a.1 in
     let n = length p + sizes ps in
     record {
-      count = omega (arith, one.count, rest.count, length-append (items_or_none (declared p)) (items_of ps));
-      nots = nots_append n (items_or_none (declared p)) (items_of ps)
-          (more_nots (length p) n (items_or_none (declared p)) (omega arith) one.nots) (more_nots (sizes ps) n (items_of ps) (omega arith) rest.nots);
+      count = omega (arith, one.count, rest.count, length-append (items_or_none o) (items_of more));
+      nots = nots_append n (items_or_none o) (items_of more)
+          (more_nots (length p) n (items_or_none o) (omega arith) one.nots) (more_nots (sizes ps) n (items_of more) (omega arith) rest.nots);
     }
 
 -- ---- variables
@@ -260,9 +357,10 @@ pub record Counted (n : ℕ) (ds : List VarDecl) : Type 0 where
   pub each : AllFew n ds
 
 -- the variables that tokens declare
-pub tokens_count : (earlier : List RuleHead) (rule : ℕ) (ts : List PatchToken) → Counted (length ts) (vars_of_items earlier rule (items_of (parts ts)))
-tokens_count earlier rule ts =
-    let few = all_few (parts ts) in
+pub tokens_count : (earlier : List RuleHead) (rule : ℕ) (ts : List PatchToken) (answers : List (Option (List Item))) → AreAnswers ts answers
+    → Counted (length ts) (vars_of_items earlier rule (items_of answers))
+tokens_count earlier rule ts answers read =
+    let few = all_few [] (parts ts) answers read in
     let fits : sizes (parts ts) ≤ length ts = omega (arith, parts_sizes ts) in
-    let vars = vars_few earlier rule (length ts) (items_of (parts ts)) (more_nots (sizes (parts ts)) (length ts) (items_of (parts ts)) fits few.nots) in
+    let vars = vars_few earlier rule (length ts) (items_of answers) (more_nots (sizes (parts ts)) (length ts) (items_of answers) fits few.nots) in
     record { long = omega (arith, vars.long, few.count, fits); each = vars.each }

@@ -23,7 +23,6 @@ use Rattle.smpl_lexer.specs.declared.text.RuleText.{RuleText}
 use Rattle.smpl_lexer.specs.Texts.{most_bytes}
 use Rattle.smpl_meta.specs.declared.head.RuleHead.{RuleHead}
 use Rattle.smpl_meta.specs.declared.patterns.Placed.{Placed}
-use Rattle.smpl_meta.specs.Decls.{vars_of}
 use Rattle.smpl_meta.specs.Patterns.{made, with_position, at_position, put, put_tokens, put_line, put_lines}
 use Rattle.smpl_plus.specs.Blocks.{Block, ArePlusLines}
 use Rattle.smpl_body.specs.Bodies.{IsBody}
@@ -36,7 +35,7 @@ use Rattle.sound_laws.proofs.SmplSound.LineLemmas.{AllLines}
 use Rattle.sound_laws.proofs.SmplSound.CountLemmas.{Counted, AllFew, tokens_count}
 use Rattle.sound_laws.proofs.SmplSound.PatchLemmas.{KeepPositions}
 use Rattle.sound_laws.proofs.SmplSound.PlusLemmas.{at_block, at_token, WhenPlus, anchored_pass}
-use Rattle.sound_laws.proofs.SmplSound.RuleLemmas.{OfText, SmallLaw, ps, placed, short, as-long, patch-has, as-passes}
+use Rattle.sound_laws.proofs.SmplSound.RuleLemmas.{OfText, HasVars, SmallLaw, ps, placed, short, as-long, patch-has, as-passes}
 
 abbrev is_small : ℕ → Bool
 is_small n = nat_lt n 4294967296
@@ -210,7 +209,7 @@ NarrowLaw = (qs : List Placed) (es : List Elem) → length qs < 2147483648 → I
 
 rule-few : FewLaw → NarrowLaw → KeepPositions
     → (known : List Variable) (n : ℕ) (t : RuleText) (h : RuleHead) (x : Rule) (earlier : List RuleHead) → IsRule known n t h x
-    → h.vars ≡ vars_of earlier n t.decls → OfText t
+    → HasVars earlier n t.decls h.vars → OfText t
     → list_all (λ m. nat_lt m 4294967296) (lengths x) ≡ true
 rule-few law narrow keep known n t h x earlier made' vars of =
     let qs = ps known n t h x made' of in
@@ -218,7 +217,7 @@ rule-few law narrow keep known n t h x earlier made' vars of =
     let b = law qs x.body s made'.body in
     let le : length t.decls ≤ 1048576 = of.few.decls in
     let counted : Counted (length t.decls) x.vars =
-    subst (λ (ds : List VarDecl). Counted (length t.decls) ds) (sym (made'.vars ∙ vars)) (tokens_count earlier n t.decls) in
+    subst (λ (ds : List VarDecl). Counted (length t.decls) ds) (sym (made'.vars ∙ vars.are)) (tokens_count earlier n t.decls vars.answers vars.read) in
     let exports : length x.exports ≤ length x.vars = omega (arith, ap length made'.exports, ap length made'.vars, exports_short known h.vars) in
     let positions = positions_small (0 + tokens_in t.body) x.tokens qs (omega (arith, of.few.body))
     (keep h.vars n t.body x.tokens made'.tokens) (lines_at h.vars 0 0 [] t.body tt) in

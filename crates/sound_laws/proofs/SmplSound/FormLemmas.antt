@@ -1,8 +1,13 @@
 -- What items of declarations must not be.
-use Rattle.std.proofs.Common.{◌≡◌, Bool, true, false, refl, sym, ap, subst, List, [], ◌∷◌, ◌++◌, Option, Some, None, if◌then◌else◌, drop, codes, option_map}
-use Rattle.std.specs.Prelude.{option_and_then}
+use Rattle.std.proofs.Common.{◌≡◌, ℕ, inl, inr, slice_get, Bool, true, false, refl, sym, ap, subst, List, [], ◌∷◌, ◌++◌}
+use Rattle.std.proofs.Common.{Option, Some, None, if◌then◌else◌, drop, codes, option_map}
+use Rattle.std.specs.Prelude.{option_and_then, eqb}
+use Rattle.std.specs.List.{AllZip}
+use Rattle.smpl_patch.specs.declared.wanted.NameWanted.{NameWanted}
+use Rattle.smpl_patch.specs.declared.wanted.Wanted.{Wanted}
 use Rattle.c_terms.specs.declared.token.MetaKind.{MetaKind}
 use Rattle.c_terms.specs.declared.token.MetaKind.TheVariants as meta
+use Rattle.smpl_patch.specs.Wants.{anything}
 use Rattle.smpl_patch.specs.declared.pattern.VarKind.{VarKind}
 use Rattle.smpl_patch.specs.declared.pattern.VarKind.TheVariants.{Meta, Position}
 use Rattle.smpl_lexer.specs.declared.token.PatchToken.{PatchToken}
@@ -13,8 +18,12 @@ use Rattle.smpl_meta.specs.declared.item.DeclKind.{DeclKind}
 use Rattle.smpl_meta.specs.declared.item.DeclKind.TheVariants.{Var, Symbol}
 use Rattle.smpl_meta.specs.Forms.{is_wordish, chunks, before_sign, plain_of, named_of, name_not, not_of, all_of, one_not}
 use Rattle.smpl_meta.specs.Forms.{nots_between, braced, nots_of, excepted_of, bare_item, item_of, is_listed, kind_of}
-use Rattle.smpl_meta.specs.Forms.{list_kind_of, items_by, front_items, declared}
-use Rattle.smpl_meta.specs.Decls.{items_or_none, items_of}
+use Rattle.smpl_meta.specs.Forms.{list_kind_of, items_by, kind_items, plain_item, count_stars, pointer_to, pointer_item, expression_item}
+use Rattle.smpl_meta.specs.TypeNames.{with_type_names}
+use Rattle.smpl_meta.specs.Typed.{with_name, declarators}
+use Rattle.smpl_meta.specs.Declarations.{IsDeclared, AreDeclared, items_or_none}
+use Rattle.smpl_meta.specs.Decls.{items_of}
+use Rattle.smpl_meta.proofs.TypedItems.{wanted_item, Sources, declares}
 use Rattle.sound_laws.proofs.SmplSound.HomeLemmas.{AllPlain, FitNots, AllFit}
 
 -- ---- what is made of an option
@@ -92,8 +101,8 @@ Fits i = FitNots i.kind i.nots
 excepted-fits : (k : DeclKind) (ts : List PatchToken) (x : Named) (i : Item) → excepted_of k ts x ≡ Some i → Fits i
 excepted-fits Symbol ts x i e = absurd (cc)
 excepted-fits (Var k) ts x i e =
-    let m = map-made (λ nots. record { kind = Var k; named = x; nots = nots }) (nots_of k ts) i e in
-    let same : record { kind = Var k; named = x; nots = m.from } ≡ i = let g = m.gives in cc in
+    let m = map-made (λ nots. record { kind = Var k; named = x; nots = nots; wanted = anything }) (nots_of k ts) i e in
+    let same : record { kind = Var k; named = x; nots = m.from; wanted = anything } ≡ i = let g = m.gives in cc in
     subst Fits same (nots-fit k ts m.from m.is)
 
 none-fit : (k : DeclKind) → FitNots k []
@@ -107,15 +116,42 @@ bare-fits k ts i e =
     let same : bare_item k m.from ≡ i = let g = m.gives in cc in
     subst Fits same (none-fit k)
 
-item-fits-by : (k : DeclKind) (x y : PatchToken) (ts : List PatchToken) (i : Item) (b : Bool)
+plain-fits-by : (k : DeclKind) (x y : PatchToken) (ts : List PatchToken) (i : Item) (b : Bool)
     → (if b then option_and_then (excepted_of k ts) (plain_of x) else option_map (bare_item k) (named_of (x ∷ y ∷ ts))) ≡ Some i → Fits i
-item-fits-by k x y ts i true e = let m = then-made (excepted_of k ts) (plain_of x) i e in excepted-fits k ts m.from i m.gives
-item-fits-by k x y ts i false e = bare-fits k (x ∷ y ∷ ts) i e
+plain-fits-by k x y ts i true e = let m = then-made (excepted_of k ts) (plain_of x) i e in excepted-fits k ts m.from i m.gives
+plain-fits-by k x y ts i false e = bare-fits k (x ∷ y ∷ ts) i e
+
+plain-fits : (k : DeclKind) (ts : List PatchToken) (i : Item) → plain_item k ts ≡ Some i → Fits i
+plain-fits k [] i e = bare-fits k [] i e
+plain-fits k (x ∷ []) i e = bare-fits k (x ∷ []) i e
+plain-fits k (x ∷ y ∷ ts) i e = plain-fits-by k x y ts i (is_sign (codes "!=") y) e
+
+pointer-fits : (n : ℕ) (ts : List PatchToken) (i : Item) → pointer_item n ts ≡ Some i → Fits i
+pointer-fits n [] i e = absurd (cc)
+pointer-fits n (x ∷ []) i e =
+    let m = map-made (pointer_to n) (plain_of x) i e in
+    let same : pointer_to n m.from ≡ i = let g = m.gives in cc in
+    subst Fits same tt
+pointer-fits n (x ∷ y ∷ ts) i e = absurd (cc)
+
+expression-fits-by : (ts : List PatchToken) (i : Item) (b : Bool)
+    → (if b then plain_item (Var (Meta meta.Expr)) ts else pointer_item (count_stars ts) (drop (count_stars ts) ts)) ≡ Some i → Fits i
+expression-fits-by ts i true e = plain-fits (Var (Meta meta.Expr)) ts i e
+expression-fits-by ts i false e = pointer-fits (count_stars ts) (drop (count_stars ts) ts) i e
+
+expression-fits : (ts : List PatchToken) (i : Item) → expression_item ts ≡ Some i → Fits i
+expression-fits ts i e = expression-fits-by ts i (eqb (count_stars ts) 0) e
 
 item-fits : (k : DeclKind) (ts : List PatchToken) (i : Item) → item_of k ts ≡ Some i → Fits i
-item-fits k [] i e = bare-fits k [] i e
-item-fits k (x ∷ []) i e = bare-fits k (x ∷ []) i e
-item-fits k (x ∷ y ∷ ts) i e = item-fits-by k x y ts i (is_sign (codes "!=") y) e
+item-fits Symbol ts i e = plain-fits Symbol ts i e
+item-fits (Var Position) ts i e = plain-fits (Var Position) ts i e
+item-fits (Var (Meta meta.Expr)) ts i e = expression-fits ts i e
+item-fits (Var (Meta meta.Ident)) ts i e = plain-fits (Var (Meta meta.Ident)) ts i e
+item-fits (Var (Meta meta.Constant)) ts i e = plain-fits (Var (Meta meta.Constant)) ts i e
+item-fits (Var (Meta meta.Typ)) ts i e = plain-fits (Var (Meta meta.Typ)) ts i e
+item-fits (Var (Meta meta.Stmt)) ts i e = plain-fits (Var (Meta meta.Stmt)) ts i e
+item-fits (Var (Meta meta.ExprList)) ts i e = plain-fits (Var (Meta meta.ExprList)) ts i e
+item-fits (Var (Meta meta.Params)) ts i e = plain-fits (Var (Meta meta.Params)) ts i e
 
 items-fit : (k : DeclKind) (cs : List (List PatchToken)) (is : List Item) → all_of (item_of k) cs ≡ Some is → AllFit is
 items-fit k [] is e = let same : [] ≡ is = cc in subst AllFit same tt
@@ -129,24 +165,49 @@ by-fit : (o : Option DeclKind) (ts : List PatchToken) (is : List Item) → items
 by-fit None ts is e = absurd (cc)
 by-fit (Some k) ts is e = items-fit k (chunks false ts) is e
 
-front-fit-by : (t : PatchToken) (ts : List PatchToken) (is : List Item) (b : Bool)
+kind-fit-by : (t : PatchToken) (ts : List PatchToken) (is : List Item) (b : Bool)
     → (if b then items_by (list_kind_of t) (drop 1 ts) else items_by (kind_of t) ts) ≡ Some is → AllFit is
-front-fit-by t ts is true e = by-fit (list_kind_of t) (drop 1 ts) is e
-front-fit-by t ts is false e = by-fit (kind_of t) ts is e
+kind-fit-by t ts is true e = by-fit (list_kind_of t) (drop 1 ts) is e
+kind-fit-by t ts is false e = by-fit (kind_of t) ts is e
 
-front-fit : (ts : List PatchToken) (is : List Item) → front_items ts ≡ Some is → AllFit is
-front-fit [] is e = absurd (cc)
-front-fit (t ∷ ts) is e = front-fit-by t ts is (is_listed ts) e
+kind-fit : (ts : List PatchToken) (is : List Item) → kind_items ts ≡ Some is → AllFit is
+kind-fit [] is e = absurd (cc)
+kind-fit (t ∷ ts) is e = kind-fit-by t ts is (is_listed ts) e
 
-declared-fit : (part : List PatchToken) (o : Option (List Item)) → declared part ≡ o → AllFit (items_or_none o)
-declared-fit part None e = tt
-declared-fit part (Some is) e = let m = then-made front_items (before_sign (codes ";") part) is e in front-fit m.from is m.gives
+-- an item fits, whatever its tokens are
+abbrev FitsAny : List PatchToken → Item → Type 0
+FitsAny ts i = Fits i
+
+typed-fits : (ts : List PatchToken) (k : ℕ) (t : PatchToken) (x : Named) (w : Wanted)
+    → slice_get ts k ≡ Some t → plain_of t ≡ Some x → FitsAny ts (wanted_item w x)
+typed-fits ts k t x w e f = tt
+
+untyped-fits : (ts : List PatchToken) (name : NameWanted) (i : Item) → expression_item ts ≡ Some i → FitsAny ts (with_name name i)
+untyped-fits ts wanted i e = expression-fits ts i e
+
+zip-fit : (ds : List (List PatchToken)) (is : List Item) → AllZip FitsAny ds is → AllFit is
+zip-fit [] [] a = tt
+zip-fit [] (i ∷ is) a = absurd a
+zip-fit (d ∷ ds) [] a = absurd a
+zip-fit (d ∷ ds) (i ∷ is) a = (a.0, zip-fit ds is a.1)
+
+front-fit : (ts : List PatchToken) (is : List Item) → Sources FitsAny typed-fits untyped-fits ts is → AllFit is
+front-fit ts is (inl e) = kind-fit ts is e
+front-fit ts is (inr o) = zip-fit (declarators 0 (drop o.skipped ts)) is o.each
+
+declared-fit : (types : List (List ℕ)) (part : List PatchToken) (o : Option (List Item)) → IsDeclared types part o → AllFit (items_or_none o)
+declared-fit types part None e = tt
+declared-fit types part (Some is) e = let d = declares FitsAny typed-fits untyped-fits types part is e in front-fit d.front is d.from
 
 fit-append : (xs ys : List Item) → AllFit xs → AllFit ys → AllFit (xs ++ ys)
 fit-append [] ys a b = b
 fit-append (x ∷ xs) ys a b = (a.0, fit-append xs ys a.1 b)
 
 -- the items of declarations exclude rules' names only at positions
-pub items-fitting : (ps : List (List PatchToken)) → AllFit (items_of ps)
-items-fitting [] = tt
-items-fitting (part ∷ more) = fit-append (items_or_none (declared part)) (items_of more) (declared-fit part (declared part) refl) (items-fitting more)
+pub items-fitting : (types : List (List ℕ)) (ps : List (List PatchToken)) (answers : List (Option (List Item))) → AreDeclared types ps answers
+    → AllFit (items_of answers)
+items-fitting types [] [] a = tt
+items-fitting types [] (o ∷ more) a = absurd a
+items-fitting types (part ∷ ps) [] a = absurd a
+items-fitting types (part ∷ ps) (o ∷ more) a = fit-append (items_or_none o) (items_of more) (declared-fit types part o a.0)
+    (items-fitting (with_type_names types (items_or_none o)) ps more a.1)

@@ -66,7 +66,8 @@ module _ (earlier : List RuleHead) (rule : ℕ) where
   inherited-gives i kind r None h s = none
   inherited-gives i kind r (Some d) h s =
       let f = found-in earlier r (name_of i) d h in
-      one (record { var = d.var; kind = kind; inherited = true; not_names = []; not_places = [] }) (found-named (name_of i) f.head.vars d f.declared) s
+      let same : VarDecl = record { var = d.var; kind = kind; inherited = true; not_names = []; not_places = []; wanted = d.wanted } in
+      one same (found-named (name_of i) f.head.vars d f.declared) s
 
   by-gives : (i : Item) (kind : VarKind) (o : Option PatchToken) → is_symbol i.kind ≡ false → Gives i (var_by earlier rule kind o i)
   by-gives i kind None s = one (own earlier rule kind i) refl s

@@ -1,5 +1,6 @@
 -- Patches that are spelled have the parts of soundness that headers and declarations give.
-use Rattle.std.proofs.Common.{◌≡◌, ℕ, suc, ◌<◌, ◌≤◌, nat_lt, Bool, true, refl, sym, ap, ◌∙◌, subst, List, [], ◌∷◌, ◌++◌, length, None, arith, append_assoc, map}
+use Rattle.std.proofs.Common.{◌≡◌, ℕ, suc, ◌<◌, ◌≤◌, nat_lt, Bool, true, refl, sym, ap, ◌∙◌, subst, List, [], ◌∷◌, ◌++◌}
+use Rattle.std.proofs.Common.{length, Option, None, arith, append_assoc, map}
 use Rattle.std.specs.List.{list_all}
 use Rattle.std.proofs.lemmas.List.{append-nil}
 use Rattle.std.specs.Str.{bytes_eq}
@@ -19,6 +20,7 @@ use Rattle.smpl_lexer.specs.declared.text.PatchText.{PatchText}
 use Rattle.smpl_lexer.specs.Headers.{header_stop}
 use Rattle.smpl_lexer.specs.Texts.{IsTextOf, IsSmall, AllGoOn}
 use Rattle.smpl_meta.specs.declared.head.RuleHead.{RuleHead}
+use Rattle.smpl_meta.specs.declared.item.Item.{Item}
 use Rattle.smpl_meta.specs.Forms.{parts}
 use Rattle.smpl_meta.specs.Decls.{items_of, items_faults, form_faults, decl_faults, vars_of_items}
 use Rattle.smpl_meta.specs.Heads.{name_token, name_fault, depends_tokens, unknown_faults, head_faults, DependsOn, IsHead, AreHeads}
@@ -79,26 +81,26 @@ under-last known [] (x ∷ rs) h r u e = absurd u
 under-last known (f ∷ hs) [] h r u e = absurd u
 under-last known (f ∷ hs) (x ∷ rs) h r u e = (u.0, under-last known hs rs h r u.1 e)
 
-items-right : (virtuals : List (List ℕ)) (earlier : List RuleHead) (r : RuleText) → head_faults virtuals earlier r ≡ []
-    → items_faults earlier [] (items_of (parts r.decls)) ≡ []
-items-right virtuals earlier r e =
+items-right : (virtuals : List (List ℕ)) (earlier : List RuleHead) (answers : List (Option (List Item))) (r : RuleText)
+    → head_faults virtuals earlier answers r ≡ [] → items_faults earlier [] (items_of answers) ≡ []
+items-right virtuals earlier answers r e =
     let names = name_fault virtuals earlier (name_token r.header) in
     let unknown = unknown_faults virtuals earlier (depends_tokens r.header) in
-    let decls = back-nil unknown (decl_faults earlier r.decls) (back-nil names (unknown ++ decl_faults earlier r.decls) e) in
-    back-nil (form_faults (parts r.decls)) (items_faults earlier [] (items_of (parts r.decls))) decls
+    let decls = back-nil unknown (decl_faults earlier answers r.decls) (back-nil names (unknown ++ decl_faults earlier answers r.decls) e) in
+    back-nil (form_faults (parts r.decls) answers) (items_faults earlier [] (items_of answers)) decls
 
 module _ (virtuals : List (List ℕ)) (known : List Variable) (heads : List RuleHead) (rules : List Rule)
     (ahead : Ahead known heads rules) (r : RuleText) (h : RuleHead)
     (is : IsHead virtuals heads (length heads) r h) (x : Rule) (n : ℕ) (made : IsRule known n r h x) where
-  right : items_faults heads [] (items_of (parts r.decls)) ≡ []
-  right = items-right virtuals heads r is.faultless
+  right : items_faults heads [] (items_of is.answers) ≡ []
+  right = items-right virtuals heads is.answers r is.faultless
 
-  vars-of : x.vars ≡ vars_of_items heads (length heads) (items_of (parts r.decls))
+  vars-of : x.vars ≡ vars_of_items heads (length heads) (items_of is.answers)
   vars-of = made.vars ∙ is.vars
 
   rule-names : names_differ rules x ≡ true
   rule-names = ap (none_alike (λ (d e : VarDecl). bytes_eq d.var.name e.var.name)) vars-of
-      ∙ names-differ heads (length heads) [] (items_of (parts r.decls)) right
+      ∙ names-differ heads (length heads) [] (items_of is.answers) right
 
   rule-exports : exports_are_own rules x ≡ true
   rule-exports = ap (λ (l : List Variable). list_all (is_own_var x.vars) l) made.exports
@@ -107,7 +109,7 @@ module _ (virtuals : List (List ℕ)) (known : List Variable) (heads : List Rule
 
   decls-good : GoodDecls heads h.vars
   decls-good = subst (λ (ds : List VarDecl). GoodDecls heads ds) (sym is.vars)
-      (items-good heads ahead.good (length heads) refl [] (items_of (parts r.decls)) (items-fitting (parts r.decls)) right)
+      (items-good heads ahead.good (length heads) refl [] (items_of is.answers) (items-fitting [] (parts r.decls) is.answers is.read) right)
 
   rule-vars : AllKnown known (taken_by_all h.vars) → vars_are_sound rules x ≡ true
   rule-vars a = ap (list_all (is_sound_decl rules)) made.vars

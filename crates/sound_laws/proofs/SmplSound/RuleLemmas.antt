@@ -19,11 +19,13 @@ use Rattle.smpl_patch.specs.declared.rule.Patch.{Patch}
 use Rattle.smpl_patch.specs.Bodies.{body as plain}
 use Rattle.smpl_patch.specs.Shapes.{is_formed_body, patterns_body}
 use Rattle.smpl_patch.specs.Sound.{none_alike, is_declared, has_form, is_sound_pattern}
+use Rattle.smpl_lexer.specs.declared.token.PatchToken.{PatchToken}
 use Rattle.smpl_lexer.specs.declared.text.RuleText.{RuleText}
 use Rattle.smpl_lexer.specs.declared.text.PatchText.{PatchText}
 use Rattle.smpl_lexer.specs.Texts.{most_bytes, IsTextOf, IsSmallRule, IsSmall}
 use Rattle.smpl_meta.specs.declared.head.RuleHead.{RuleHead}
-use Rattle.smpl_meta.specs.Decls.{vars_of}
+use Rattle.smpl_meta.specs.declared.item.Item.{Item}
+use Rattle.smpl_meta.specs.Decls.{vars_of, AreAnswers}
 use Rattle.smpl_meta.specs.Heads.{AreHeads}
 use Rattle.smpl_meta.specs.declared.patterns.Placed.{Placed}
 use Rattle.smpl_meta.specs.Patterns.{pattern_tokens}
@@ -59,9 +61,15 @@ pub record OfText (t : RuleText) : Type 0 where
 abbrev pub SmallLaw : Type 0
 SmallLaw = (bytes : List ℕ) (text : PatchText) → IsTextOf bytes text → IsSmall text
 
+-- the variables are what declarations declare
+pub record HasVars (earlier : List RuleHead) (n : ℕ) (decls : List PatchToken) (vars : List VarDecl) : Type 0 where
+  pub answers : List (Option (List Item))
+  pub read : AreAnswers decls answers
+  pub are : vars ≡ vars_of earlier n answers
+
 abbrev Gives : (Rule → Type 0) → Type 0
 Gives Q = (known : List Variable) (n : ℕ) (t : RuleText) (h : RuleHead) (x : Rule) (earlier : List RuleHead)
-    → IsRule known n t h x → h.vars ≡ vars_of earlier n t.decls → OfText t → Q x
+    → IsRule known n t h x → HasVars earlier n t.decls h.vars → OfText t → Q x
 
 each-has : (Q : Rule → Type 0) → Gives Q
     → (text : PatchText) (known : List Variable) (n : ℕ) (earlier : List RuleHead) (ts : List RuleText) (hs : List RuleHead)
@@ -74,7 +82,11 @@ each-has Q gives text known n earlier [] (h ∷ hs) xs e a are few lines whole s
 each-has Q gives text known n earlier (t ∷ ts) [] xs e a are few lines whole small = absurd are
 each-has Q gives text known n earlier (t ∷ ts) (h ∷ hs) [] e a are few lines whole small = absurd a
 each-has Q gives text known n earlier (t ∷ ts) (h ∷ hs) (x ∷ xs) e a are few lines whole small =
-    let vars : h.vars ≡ vars_of earlier n t.decls = are.0.vars ∙ ap (λ (m : ℕ). vars_of earlier m t.decls) e in (
+    let vars : HasVars earlier n t.decls h.vars = record {
+      answers = are.0.answers;
+      read = are.0.read;
+      are = are.0.vars ∙ ap (λ (m : ℕ). vars_of earlier m are.0.answers) e;
+    } in (
       gives known n t h x earlier a.0 vars (record { few = few.0; lines = lines.0; whole = whole.0; short = (All-head IsSmallRule t ts small).lines }),
       each-has Q gives text known (suc n) (earlier ++ h ∷ []) ts hs xs
           (omega (arith, e, length-append earlier (h ∷ []))) a.1 are.1 few.1 lines.1 whole.1 (All-tail IsSmallRule t ts small),

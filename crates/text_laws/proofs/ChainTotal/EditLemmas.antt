@@ -6,7 +6,7 @@ use Rattle.std.proofs.lemmas.List.Elements.{All-nil, All-cons}
 use Rattle.c_lexer.specs.Pieces.{TextPiece}
 use Rattle.c_lexer.specs.Ids.{ids_of}
 use Rattle.cpp_lines.specs.declared.reading.Item.{Item}
-use Rattle.cfg_build.specs.declared.cfg_graph.label.NodeKind.{NodeKind}
+use Rattle.edit_marks.specs.declared.edit_walk.nodes.ItemNodes.{ItemNodes}
 use Rattle.smpl_patch.specs.declared.pattern.VarDecl.{VarDecl}
 use Rattle.smpl_patch.specs.declared.pattern.PatToken.{PatToken}
 use Rattle.smpl_patch.specs.declared.rule.Rule.{Rule}
@@ -46,20 +46,20 @@ edit_some decls tokens env files pairs =
       },
     )
 
-module _ (rule : Rule) (items : List Item) (kinds : List (List NodeKind)) (pieces : List TextPiece) where
+module _ (rule : Rule) (items : List Item) (nodes : List ItemNodes) (pieces : List TextPiece) where
   abbrev Fits : Edit → Type 0
   Fits = FitsText (length (ids_of pieces))
 
   record Each (ts : List Touched) : Type 0 where
     edits : List Edit
-    are : AllZip (IsEditAt rule items kinds pieces) ts edits
+    are : AllZip (IsEditAt rule items nodes pieces) ts edits
     fit : All Fits edits
 
-  touch_some : (t : Touched) → (edit : Edit) × (IsEditAt rule items kinds pieces t edit × Fits edit)
+  touch_some : (t : Touched) → (edit : Edit) × (IsEditAt rule items nodes pieces t edit × Fits edit)
   touch_some t =
       let patterns = patterns_body (body rule.body) in
-      let found = alignment patterns rule.vars rule.tokens items kinds (ids_of pieces) t in
-      let one = edit_some rule.vars rule.tokens t.env (file_tokens pieces) (pairs_at patterns rule.vars rule.tokens items kinds (ids_of pieces) t) in
+      let found = alignment patterns rule.vars rule.tokens items nodes (ids_of pieces) t in
+      let one = edit_some rule.vars rule.tokens t.env (file_tokens pieces) (pairs_at patterns rule.vars rule.tokens items nodes (ids_of pieces) t) in
       (one.0, (one.1, edit_fits rule.vars rule.tokens t.env pieces found one.0 one.1))
 
   each_some : (ts : List Touched) → Each ts
@@ -72,7 +72,7 @@ module _ (rule : Rule) (items : List Item) (kinds : List (List NodeKind)) (piece
   -- the edits of witnesses, each of which fits the text
   pub record Edited (found : List RuleWitness) : Type 0 where
     pub edits : List Edit
-    pub are : AreEdits found rule items kinds pieces edits
+    pub are : AreEdits found rule items nodes pieces edits
     pub fit : All Fits edits
 
   pub edits_some : (found : List RuleWitness) → Edited found

@@ -12,7 +12,7 @@ use Rattle.edit_marks.specs.declared.edit_conflict.edit.Edit.{Edit}
 use Rattle.edit_marks.specs.declared.edit_conflict.clash.Clash.{Clash}
 use Rattle.edit_marks.specs.EditConflict.Clashes.{IsClash, IsFirstClash}
 use Rattle.edit_marks.specs.EditWalk.Fit.{FitsText}
-use Rattle.rule_chain.specs.RuleEdits.Kinds.{kinds_of}
+use Rattle.rule_chain.specs.RuleEdits.Nodes.{nodes_of}
 use Rattle.rule_chain.specs.RuleEdits.Pages.{is_edited}
 use Rattle.rule_chain.specs.RuleEdits.Faults.IsEditFault.{conflict, too_long}
 use Rattle.rule_chain.specs.declared.rule_edits.fault.EditFault.{EditFault}
@@ -108,7 +108,7 @@ module _ (cut_law : CutLaw) (state_law : StateLaw) (text_law : TextLaw) (defined
     file_envs_by : is_too_much defined number rule s ≡ false
         → (length (rule_file_envs defined number rule s) ≤ most_environments) ⊎ (most_environments < length (rule_file_envs defined number rule s)) → ⊥
     file_envs_by calm (inl few) =
-        let edited = edits_some rule s.items (kinds_of s.items) s.pieces (file_witnesses defined number rule s) in
+        let edited = edits_some rule s.items (nodes_of rule s.items) s.pieces (file_witnesses defined number rule s) in
         worked_by (record { witnesses = calm; environments = few }) edited.edits edited.are edited.fit
     file_envs_by calm (inr many) = refused (TooManyEnvironments number) (too_many_environments calm many)
 

@@ -1,5 +1,7 @@
 -- The values that a rule finds over items are places, or terms of tokens of C, and so are those of the environments after it.
-use Rattle.std.proofs.Common.{ℕ, suc, Bool, true, false, cond, ◌+◌, List, [], ◌∷◌, map, Option, None, Some}
+use Rattle.std.proofs.Common.{◌≡◌, ℕ, suc, Bool, true, false, cond, ◌+◌, sym, ap, ◌∙◌, subst, arith, List, [], ◌∷◌, map, Option, None, Some}
+use Rattle.std.specs.Prelude.{slice_get, take}
+use Rattle.std.specs.Option.{option_map}
 use Rattle.std.specs.Prelude.{All}
 use Rattle.std.specs.List.{filter, flat_map, filter_map, cons_option}
 use Rattle.std.proofs.lemmas.List.Elements.{All-nil, All-cons, All-head, All-tail, All-append, All-filter}
@@ -11,6 +13,9 @@ use Rattle.cpp_lines.specs.declared.reading.Item.TheVariants.{Parsed, Skipped}
 use Rattle.cfg_build.specs.CfgGraph.Flow.{Flow, count_of}
 use Rattle.cfg_build.specs.Graphs.{graph_of}
 use Rattle.c_file.specs.Fit.{item_graph}
+use Rattle.c_file.specs.ItemGraphs.Trees.{item_tree}
+use Rattle.c_file.specs.ItemGraphs.Typed.{scope_of, typed_tree, graph_in, graphs_from}
+use Rattle.smpl_patch.specs.Wants.{ask_types}
 use Rattle.smpl_terms.specs.Environments.{total}
 use Rattle.smpl_patch.specs.declared.rule.Rule.{Rule}
 use Rattle.smpl_patch.specs.declared.witness.RuleWitness.{RuleWitness}
@@ -28,6 +33,7 @@ use Rattle.rule_envs.specs.declared.file_env.FileEnv.{FileEnv}
 use Rattle.rule_envs.specs.Inherited.{inherited_of}
 use Rattle.rule_envs.specs.Shares.{takes_part, share, projections}
 use Rattle.rule_envs.specs.FileEnvs.{extended, replaced, becomes_by}
+use Rattle.rule_chain.specs.FileWitnesses.Seen.{seen_graph}
 use Rattle.rule_chain.specs.FileWitnesses.Found.{witnesses_in, found_from, found_under, brings}
 use Rattle.rule_chain.specs.RuleMatches.Matching.{rule_found, file_envs_after}
 use Rattle.text_laws.specs.OutputLaws.Values.{AreCValues}
@@ -84,23 +90,39 @@ abbrev pub ValueLaw : Type 0
 ValueLaw = (t : Tree) → AreCTokens (leaves t) → AreCValues (values_of (graph_of t))
 
 module _ (law : ValueLaw) (pieces : List TextPiece) (number : ℕ) (rule : Rule) where
-  in_item : (item : Item) (at : ℕ) → IsSoundItem pieces item → (env : Pairs) → HaveCValues env
-      → All IsFound (witnesses_in number rule at (item_graph (Some item)) env)
-  in_item (Parsed t) at sound env h = in_graph number rule (graph_of t) at (law t sound.0) env h
-  in_item (Skipped span why) at sound env h = All-nil IsFound
+  -- in the graph of an item as a rule sees it, with or without types: the values are those of the graph without
+  in_seen : (items : List Item) (at : ℕ) (typed : Bool) (item : Item) → slice_get items at ≡ Some item → IsSoundItem pieces item → (env : Pairs)
+      → HaveCValues env → All IsFound (witnesses_in number rule at (graph_in typed items at) env)
+  in_seen items at true (Parsed t) e sound env h =
+      let scope = scope_of (take at items) in
+      subst (λ (o : Option Item). All IsFound (witnesses_in number rule at (option_map (typed_tree scope) (item_tree o)) env)) (sym e)
+      (in_graph number rule (typed_tree scope t) at (law t sound.0) env h)
+  in_seen items at false (Parsed t) e sound env h =
+      subst (λ (o : Option Item). All IsFound (witnesses_in number rule at (item_graph o) env)) (sym e)
+      (in_graph number rule (graph_of t) at (law t sound.0) env h)
+  in_seen items at true (Skipped span why) e sound env h =
+      let scope = scope_of (take at items) in
+      subst (λ (o : Option Item). All IsFound (witnesses_in number rule at (option_map (typed_tree scope) (item_tree o)) env)) (sym e) (All-nil IsFound)
+  in_seen items at false (Skipped span why) e sound env h =
+      subst (λ (o : Option Item). All IsFound (witnesses_in number rule at (item_graph o) env)) (sym e) (All-nil IsFound)
 
-  in_items : (at : ℕ) (items : List Item) → All (IsSoundItem pieces) items → (env : Pairs) → HaveCValues env
-      → All IsFound (found_from number rule at items env)
-  in_items at [] sound env h = All-nil IsFound
-  in_items at (item ∷ items) sound env h =
-      let here : List RuleWitness = witnesses_in number rule at (item_graph (Some item)) env in
-      All-append IsFound (map bare_witness here) (found_from number rule (suc at) items env)
-      (map_each IsFound IsFound bare_witness bare_found here (in_item item at (All-head (IsSoundItem pieces) item items sound) env h))
-      (in_items (suc at) items (All-tail (IsSoundItem pieces) item items sound) env h)
+  in_items : (items : List Item) (at : ℕ) (more : List Item) → ((k : ℕ) → slice_get items (at + k) ≡ slice_get more k)
+      → All (IsSoundItem pieces) more → (env : Pairs) → HaveCValues env
+      → All IsFound (found_from number rule at (graphs_from (ask_types rule.vars) items at more) env)
+  in_items items at [] same sound env h = All-nil IsFound
+  in_items items at (item ∷ more) same sound env h =
+      let here : List RuleWitness = witnesses_in number rule at (seen_graph rule items at) env in
+      let now : at ≡ at + 0 = omega arith in
+      let next : (k : ℕ) → suc at + k ≡ at + suc k = λ k. omega arith in
+      All-append IsFound (map bare_witness here) (found_from number rule (suc at) (graphs_from (ask_types rule.vars) items (suc at) more) env)
+      (map_each IsFound IsFound bare_witness bare_found here
+      (in_seen items at (ask_types rule.vars) item (ap (slice_get items) now ∙ same 0) (All-head (IsSoundItem pieces) item more sound) env h))
+      (in_items items (suc at) more (λ k. ap (slice_get items) (next k) ∙ same (suc k)) (All-tail (IsSoundItem pieces) item more sound) env h)
 
   module _ (items : List Item) (sound : All (IsSoundItem pieces) items) where
     under : (env : Pairs) → HaveCValues env → All IsFound (found_under number rule items env)
-    under env h = in_items 0 items sound env h
+    under env h =
+        let same : (k : ℕ) → 0 + k ≡ k = λ k. omega arith in in_items items 0 items (λ k. ap (slice_get items) (same k)) sound env h
 
     brought : (env : Pairs) → HaveCValues env → All HaveCValues (brings number rule items env)
     brought env h =

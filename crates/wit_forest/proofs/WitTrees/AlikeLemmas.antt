@@ -66,12 +66,12 @@ module _ (decls : List VarDecl) (tokens : List PatToken) (g : Flow) where
 
     holding : (f : Plain) (s : ℕ) (d e : Environment) → Alike d e → H f s d ≡ H f s e
     holding True s d e a = refl
-    holding (Atom p) s d e a = λ i. at_node g s (λ l. matches_alike decls tokens d e a p l i)
+    holding (Atom p) s d e a = λ i. at_node g s (λ l. matches_alike decls tokens g.types d e a p l i)
     holding EarlyExit s d e a = refl
     holding (BraceOpen p b) s d e a = λ i. at_node g s (λ l.
-        is_open l.kind && same-along (d b) (e b) (a b) (Place l.brace) i && matches_alike decls tokens d e a p l i)
+        is_open l.kind && same-along (d b) (e b) (a b) (Place l.brace) i && matches_alike decls tokens g.types d e a p l i)
     holding (BraceClose p b) s d e a = λ i. at_node g s (λ l.
-        is_close l.kind && same-along (d b) (e b) (a b) (Place l.brace) i && matches_alike decls tokens d e a p l i)
+        is_close l.kind && same-along (d b) (e b) (a b) (Place l.brace) i && matches_alike decls tokens g.types d e a p l i)
     holding (Inside b) s d e a = in_block-alike g (d b) (e b) (a b) s
     holding (Outside b) s d e a = off_block-alike g (d b) (e b) (a b) s
     holding (Not f) s d e a = λ i. not (holding f s d e a i)
@@ -92,9 +92,9 @@ module _ (decls : List VarDecl) (tokens : List PatToken) (g : Flow) where
   held : (f : Plain) (s : ℕ) (d e : Environment) → Alike d e → W.holds f s d ≡ W.holds f s e
   held = holding (count_of g + 1)
 
-  paths : (p : Pattern) (d e : Environment) → Alike d e → (o : Option NodeLabel) → paths_at decls tokens p d o ≡ paths_at decls tokens p e o
+  paths : (p : Pattern) (d e : Environment) → Alike d e → (o : Option NodeLabel) → paths_at decls tokens g.types p d o ≡ paths_at decls tokens g.types p e o
   paths p d e a None = refl
-  paths p d e a (Some l) = λ i. map (λ t. t.path) (aligns_alike decls tokens d e a p l i)
+  paths p d e a (Some l) = λ i. map (λ t. t.path) (aligns_alike decls tokens g.types d e a p l i)
 
   touching : (p : Pattern) (s : ℕ) (d e : Environment) → Alike d e → W.touches p s d ≡ W.touches p s e
   touching p s d e a = λ i. if is_touched tokens p then paths p d e a (slice_get g.labels s) i else []

@@ -3,6 +3,7 @@
 use Rattle.std.proofs.Common.{◌≡◌, ℕ, zero, suc, ◌+◌, Bool, true, false, not, ◌&&◌, ◌||◌, refl, List, [], ◌∷◌, Option, Some, None, slice_index_or, cond, map}
 use Rattle.std.specs.Prelude.{codes, eqb, slice_get}
 use Rattle.std.specs.List.{list_any, list_all}
+use Rattle.c_types.specs.Tables.{no_types}
 use Rattle.cfg_build.specs.declared.cfg_graph.label.NodeKind.{NodeKind}
 use Rattle.cfg_build.specs.declared.cfg_graph.label.NodeKind.TheVariants as kind
 use Rattle.cfg_build.specs.declared.cfg_graph.label.NodeLabel.{NodeLabel}
@@ -18,6 +19,7 @@ use Rattle.smpl_patch.specs.declared.pattern.Spot.TheVariants as spot
 use Rattle.smpl_patch.specs.declared.pattern.VarKind.TheVariants as var_kind
 use Rattle.smpl_patch.specs.declared.pattern.VarDecl.{VarDecl}
 use Rattle.smpl_patch.specs.declared.witness.Witness.TheVariants.{Touch, Bind}
+use Rattle.smpl_patch.specs.Wants.{anything}
 use Rattle.ctl_formula.specs.Plain.{Plain, True, Atom, EarlyExit, BraceOpen, BraceClose, Inside, Outside, Not, And, Or, AX, EX, AU, EU, After, InBranch, Exists}
 use Rattle.ctl_fixpoint.specs.CtlHolds.Holding.{in_block, off_block}
 use Rattle.ctl_fixpoint.specs.CtlHolds.Rounds.{passes, passes_there, rounds}
@@ -31,7 +33,7 @@ abbrev p : ℕ → Pattern
 p n = record { atom = n; spot = spot.Whole; forms = [] }
 
 abbrev decl : Var → VarDecl
-decl x = record { var = x; kind = var_kind.Position; inherited = false; not_names = []; not_places = [] }
+decl x = record { var = x; kind = var_kind.Position; inherited = false; not_names = []; not_places = []; wanted = anything }
 
 abbrev label : NodeKind → ℕ → NodeLabel
 label k brace = record { kind = k; tree = no_statements; path = []; bail = false; brace = brace }
@@ -88,7 +90,7 @@ module _ (g : Flow) (values : List Value) (rows : List Row) (bails : List ℕ) (
 
 abbrev world : List (List ℕ) → List (Option ℕ) → List (List ℕ) → ℕ → List Row → List ℕ → List (Option ℕ) → List (Option ℕ) → List Var → World
 world succ past down values rows bails opens closes vars =
-    let g : Flow = record { labels = labels opens closes; succ = succ; past = past; down = down } in record {
+    let g : Flow = record { labels = labels opens closes; succ = succ; past = past; down = down; types = no_types } in record {
       graph = g;
       values = places 0 values;
       holds = holds g (places 0 values) rows bails opens closes;

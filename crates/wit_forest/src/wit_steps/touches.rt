@@ -49,9 +49,11 @@ fn put_touches(
     if p.forms.len() > u32::MAX as usize {
         return Err(NoMemory);
     }
+    let types = g.types();
     let context = PatternContext {
         decls: f.decls(),
         tokens: f.tokens(),
+        types: &types,
     };
     let places = align(alloc, p, &context, &g.label(s), env)?;
     put_places(found, places, p.atom, s)

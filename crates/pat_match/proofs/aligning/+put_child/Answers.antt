@@ -13,7 +13,7 @@ pub loop-j-init : goal.loop-j-init
 loop-j-init t c = record {
   above = λ _. c.push.new.self.items;
   found = ap (λ ps. c.put_part.new.found.items
-      ++ aligned_at c.args.aligner.now.context.now.decls.now c.args.aligner.now.context.now.tokens.now
+      ++ aligned_at c.args.aligner.now.context.now.decls.now c.args.aligner.now.context.now.tokens.now c.args.aligner.now.context.now.types.now
       (total c.args.aligner.now.env.now) c.args.aligner.now.p.now c.args.aligner.now.role c.push.new.self.items ps)
       (sym (kids_of c.args.child.now c.in-Branch.inner _ c.as_slice-below-items.result.now c.in-Branch.is c.as_slice-below-items.ensures));
 }
@@ -28,12 +28,12 @@ put_child-requires t c =
 pub loop-j-preserved : goal.loop-j-preserved
 loop-j-preserved t c = record {
   above = c.in_ok-put_child-in-Branch.ensures.above ∙ c.loop-j.invariant.above;
-  found = aligned_kids_step c.args.aligner.now.context.now.decls.now c.args.aligner.now.context.now.tokens.now
+  found = aligned_kids_step c.args.aligner.now.context.now.decls.now c.args.aligner.now.context.now.tokens.now c.args.aligner.now.context.now.types.now
       (total c.args.aligner.now.env.now) c.args.aligner.now.p.now c.args.aligner.now.role c.push.new.self.items
       c.in-Branch.inner c.as_slice-below-items.result.now c.loop-j.j (c.loop-j.j + 1) c.below-item.result c.loop-j.found.items
       c.put_child.new.found.items _ (omega arith) c.loop-j-test.true c.below-item.is
       (c.in_ok-put_child-in-Branch.ensures.found ∙ ap (λ path. c.loop-j.found.items
-      ++ aligned_at c.args.aligner.now.context.now.decls.now c.args.aligner.now.context.now.tokens.now
+      ++ aligned_at c.args.aligner.now.context.now.decls.now c.args.aligner.now.context.now.tokens.now c.args.aligner.now.context.now.types.now
       (total c.args.aligner.now.env.now) c.args.aligner.now.p.now c.args.aligner.now.role path
       (parts_of_child c.in-Branch.inner c.loop-j.j c.below-item.result)) c.loop-j.invariant.above)
       c.loop-j.invariant.found;
@@ -42,22 +42,22 @@ loop-j-preserved t c = record {
 pub returns-clause-found : goal.returns-clause-found
 returns-clause-found t c = elim c.match-child.branch [
   | in-Branch+else-loop-j-test w ↦ ap (λ (v : Vec Alignment Global). v.items) w.found-is
-      ∙ aligned_done c.args.aligner.now.context.now.decls.now c.args.aligner.now.context.now.tokens.now
+      ∙ aligned_done c.args.aligner.now.context.now.decls.now c.args.aligner.now.context.now.tokens.now c.args.aligner.now.context.now.types.now
       (total c.args.aligner.now.env.now) c.args.aligner.now.p.now c.args.aligner.now.role c.args.above.now.items
       c.push.new.self.items c.args.label c.args.i c.args.child.now w.in-Branch.inner w.as_slice-below-items.result.now w.loop-j.j
       c.args.found.now.items c.put_part.new.found.items w.loop-j.found.items c.is_expression_part-asked.result w.loop-j-test.false
       c.is_expression_part-asked.ensures.value c.in_ok-push.ensures.items
       (c.in_ok-put_part.ensures ∙ ap (λ path. c.args.found.now.items ++ (if c.is_expression_part-asked.result
-      then put_form path (form_at c.args.aligner.now.context.now.decls.now c.args.aligner.now.context.now.tokens.now
+      then put_form path (form_at c.args.aligner.now.context.now.decls.now c.args.aligner.now.context.now.tokens.now c.args.aligner.now.context.now.types.now
       (total c.args.aligner.now.env.now) c.args.aligner.now.p.now c.args.aligner.now.role c.args.child.now)
       else [])) c.as_slice.ensures.value) w.loop-j.invariant.found
   | in-Leaf w ↦ ap (λ (v : Vec Alignment Global). v.items) w.found-is
-      ∙ aligned_leaf c.args.aligner.now.context.now.decls.now c.args.aligner.now.context.now.tokens.now
+      ∙ aligned_leaf c.args.aligner.now.context.now.decls.now c.args.aligner.now.context.now.tokens.now c.args.aligner.now.context.now.types.now
       (total c.args.aligner.now.env.now) c.args.aligner.now.p.now c.args.aligner.now.role c.args.above.now.items
       c.push.new.self.items c.args.label c.args.i c.args.child.now _ c.args.found.now.items c.put_part.new.found.items
       c.is_expression_part-asked.result w.in-Leaf.is c.is_expression_part-asked.ensures.value c.in_ok-push.ensures.items
       (c.in_ok-put_part.ensures ∙ ap (λ path. c.args.found.now.items ++ (if c.is_expression_part-asked.result
-      then put_form path (form_at c.args.aligner.now.context.now.decls.now c.args.aligner.now.context.now.tokens.now
+      then put_form path (form_at c.args.aligner.now.context.now.decls.now c.args.aligner.now.context.now.tokens.now c.args.aligner.now.context.now.types.now
       (total c.args.aligner.now.env.now) c.args.aligner.now.p.now c.args.aligner.now.role c.args.child.now)
       else [])) c.as_slice.ensures.value)
 ]

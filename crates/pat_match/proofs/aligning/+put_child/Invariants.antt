@@ -10,9 +10,9 @@ use Rattle.pat_match.proofs.aligning.+put_child.Given as goal
 abbrev pub invariant-loop-j : goal.invariant-loop-j
 invariant-loop-j l = record {
   above : l.above.items ≡ l.initial.above.items;
-  found : l.found.items ++ aligned_at l.aligner.context.now.decls.now l.aligner.context.now.tokens.now
+  found : l.found.items ++ aligned_at l.aligner.context.now.decls.now l.aligner.context.now.tokens.now l.aligner.context.now.types.now
       (total l.aligner.env.now) l.aligner.p.now l.aligner.role l.initial.above.items (kids_parts l.inner l.j (drop l.j l.below-items))
-      ≡ l.initial.found.items ++ aligned_at l.aligner.context.now.decls.now l.aligner.context.now.tokens.now
+      ≡ l.initial.found.items ++ aligned_at l.aligner.context.now.decls.now l.aligner.context.now.tokens.now l.aligner.context.now.types.now
       (total l.aligner.env.now) l.aligner.p.now l.aligner.role l.initial.above.items (parts is_expression_part l.child);
 }
 

@@ -11,7 +11,8 @@ use Rattle.pat_match.proofs.inside.+put_child.Goals as goal
 pub loop-j-init : goal.loop-j-init
 loop-j-init t c = record {
   meaning = λ env. ap (λ ps. set_denotes c.put_part.new.entries.items env
-      || list_any (λ (s : Place). fits_tree c.args.context.now.decls.now c.args.context.now.tokens.now env c.args.form.now s.tree) ps)
+      || list_any (λ (s : Place). fits_tree c.args.context.now.decls.now c.args.context.now.tokens.now c.args.context.now.types.now env c.args.form.now s.tree)
+      ps)
       (sym (kids_of c.args.child.now c.in-Branch.inner _ c.as_slice-below-items.result.now c.in-Branch.is c.as_slice-below-items.ensures));
   vars = λ v all before. before;
 }
@@ -25,6 +26,7 @@ put_child-requires t c =
 
 pub returns-after-loop-j-clause-meaning : goal.returns-after-loop-j-clause-meaning
 returns-after-loop-j-clause-meaning t c = λ env.
-    any_child_done (λ u. fits_tree c.args.context.now.decls.now c.args.context.now.tokens.now env c.args.form.now u) c.args.label c.args.i c.args.child.now
+    any_child_done (λ u. fits_tree c.args.context.now.decls.now c.args.context.now.tokens.now c.args.context.now.types.now env c.args.form.now u) c.args.label
+    c.args.i c.args.child.now
     c.in-Branch.inner c.as_slice-below-items.result.now c.loop-j.j c.is_expression_part-asked.result _ _ _ c.loop-j-test.false
     c.is_expression_part-asked.ensures.value (c.in_ok-put_part.ensures.meaning env) (c.loop-j.invariant.meaning env)

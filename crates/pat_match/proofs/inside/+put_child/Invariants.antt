@@ -14,9 +14,10 @@ use Rattle.pat_match.proofs.inside.+put_child.Given as goal
 abbrev pub invariant-loop-j : goal.invariant-loop-j
 invariant-loop-j l = record {
   meaning : (env : Environment) → (set_denotes l.entries.items env
-      || list_any (λ s. fits_tree l.context.decls.now l.context.tokens.now env l.form s.tree) (kids_parts l.inner l.j (drop l.j l.below-items)))
+      || list_any (λ s. fits_tree l.context.decls.now l.context.tokens.now l.context.types.now env l.form s.tree)
+      (kids_parts l.inner l.j (drop l.j l.below-items)))
       ≡ (set_denotes l.initial.entries.items env
-      || list_any (λ s. fits_tree l.context.decls.now l.context.tokens.now env l.form s.tree) (parts is_expression_part l.child));
+      || list_any (λ s. fits_tree l.context.decls.now l.context.tokens.now l.context.types.now env l.form s.tree) (parts is_expression_part l.child));
   vars : (t : Var → Bool) → form_vars l.context.decls.now l.context.tokens.now t l.form ≡ true
       → set_vars t l.initial.entries.items ≡ true → set_vars t l.entries.items ≡ true;
 }

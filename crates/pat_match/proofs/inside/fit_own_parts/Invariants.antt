@@ -12,9 +12,9 @@ use Rattle.pat_match.proofs.inside.fit_own_parts.Given as goal
 abbrev pub invariant-loop-i : goal.invariant-loop-i
 invariant-loop-i l = record {
   meaning : (env : Environment) → (set_denotes l.entries.items env
-      || list_any (λ s. fits_tree l.context.decls.now l.context.tokens.now env l.form s.tree)
+      || list_any (λ s. fits_tree l.context.decls.now l.context.tokens.now l.context.types.now env l.form s.tree)
       (own_parts_from (is_own l.kind l.label (length l.children)) l.label l.i (drop l.i l.children)))
-      ≡ list_any (λ s. fits_tree l.context.decls.now l.context.tokens.now env l.form s.tree)
+      ≡ list_any (λ s. fits_tree l.context.decls.now l.context.tokens.now l.context.types.now env l.form s.tree)
       (own_parts_from (is_own l.kind l.label (length l.children)) l.label 0 l.children);
   vars : (t : Var → Bool) → form_vars l.context.decls.now l.context.tokens.now t l.form ≡ true → set_vars t l.entries.items ≡ true;
 }

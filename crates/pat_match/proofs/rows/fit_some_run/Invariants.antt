@@ -10,7 +10,7 @@ use Rattle.pat_match.proofs.rows.fit_some_run.Given as goal
 abbrev pub invariant-loop-entry : goal.invariant-loop-entry
 invariant-loop-entry l = record {
   meaning : (env : Environment) → set_denotes l.entries.items env
-      ≡ list_any (wild_entry l.context.decls.now l.context.tokens.now l.child.label
+      ≡ list_any (wild_entry l.context.decls.now l.context.tokens.now l.context.types.now l.child.label
       (comma_before l.child.forms.now l.child.i) l.child.form.now l.members l.from env) (take l.entry-index l.row);
   vars : (t : Var → Bool) → list_all (form_vars l.context.decls.now l.context.tokens.now t) l.child.forms.now ≡ true
       → form_vars l.context.decls.now l.context.tokens.now t l.child.form.now ≡ true

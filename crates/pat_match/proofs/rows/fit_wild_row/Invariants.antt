@@ -9,7 +9,7 @@ use Rattle.pat_match.proofs.rows.fit_wild_row.Given as goal
 abbrev pub invariant-loop-from : goal.invariant-loop-from
 invariant-loop-from l = record {
   meaning : (n : ℕ) (env : Environment) → row_at l.out.items n env
-      ≡ (nat_lt n l.from && step_at l.context.decls.now l.context.tokens.now l.child.label
+      ≡ (nat_lt n l.from && step_at l.context.decls.now l.context.tokens.now l.context.types.now l.child.label
       (comma_before l.child.forms.now l.child.i) l.child.form.now l.members l.row n env);
   vars : (t : Var → Bool) → list_all (form_vars l.context.decls.now l.context.tokens.now t) l.child.forms.now ≡ true
       → form_vars l.context.decls.now l.context.tokens.now t l.child.form.now ≡ true

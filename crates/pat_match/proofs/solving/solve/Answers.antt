@@ -18,10 +18,10 @@ loop-i-preserved c =
       meaning = λ env.
           c.in_ok-put_set.ensures.meaning env
           ∙ (λ k. c.loop-i.invariant.meaning env k || (c.in_ok-here.ensures.meaning env
-          ∙ ap₂ (λ r t. list_any (λ (s : Place). fits_seat c.args.context.now.decls.now c.args.context.now.tokens.now env
+          ∙ ap₂ (λ r t. list_any (λ (s : Place). fits_seat c.args.context.now.decls.now c.args.context.now.tokens.now c.args.context.now.types.now env
           c.args.p.now r c.index-forms-i.result s.tree)
           (seats c.args.p.now.spot r.kind t)) c.role_of-role.ensures c.as_tree-tree.ensures.value) k)
-          ∙ sym (any_step (λ f. list_any (λ (s : Place). fits_seat c.args.context.now.decls.now c.args.context.now.tokens.now
+          ∙ sym (any_step (λ f. list_any (λ (s : Place). fits_seat c.args.context.now.decls.now c.args.context.now.tokens.now c.args.context.now.types.now
           env c.args.p.now (role_of c.args.node.now) f s.tree)
           (seats c.args.p.now.spot c.args.node.now.kind c.args.node.now.tree)) forms c.loop-i.i c.index-forms-i.result lt c.index-forms-i.is);
       vars = λ t all.
@@ -35,7 +35,7 @@ loop-i-preserved c =
 pub returns-clause-meaning : goal.returns-clause-meaning
 returns-clause-meaning c = IfOk-weaker c.union.result _ _
     (λ r h env. h env ∙ c.loop-i.invariant.meaning env
-    ∙ ap (list_any (λ f. list_any (λ (s : Place). fits_seat c.args.context.now.decls.now c.args.context.now.tokens.now env
+    ∙ ap (list_any (λ f. list_any (λ (s : Place). fits_seat c.args.context.now.decls.now c.args.context.now.tokens.now c.args.context.now.types.now env
     c.args.p.now (role_of c.args.node.now) f s.tree)
     (seats c.args.p.now.spot c.args.node.now.kind c.args.node.now.tree)))
     (take_all c.as_slice-forms.result.now c.loop-i.i c.loop-i-test.false ∙ c.as_slice-forms.ensures))

@@ -11,7 +11,7 @@ returns-then-is_none-clause-meaning c = λ env.
     let nothing = c.is_none.ensures c.if-is_none.true env in
     nothing ∙ sym (no_seat (is_live_in c.args.context.now.decls.now c.args.context.now.tokens.now c.args.form.now.pattern.now
     c.args.form.now.tree.now && may_stand c.args.role c.args.form.now.tree.now)
-    (λ (s : Place). fits_at c.args.context.now.decls.now c.args.context.now.tokens.now env c.args.form.now.pattern.now.spot
+    (λ (s : Place). fits_at c.args.context.now.decls.now c.args.context.now.tokens.now c.args.context.now.types.now env c.args.form.now.pattern.now.spot
     c.args.role.kind c.args.form.now.tree.now s.tree)
     (seats c.args.form.now.pattern.now.spot c.args.role.kind c.args.tree.now) (sym (c.in_ok-set.ensures.meaning env) ∙ nothing))
 
@@ -19,6 +19,6 @@ pub returns-else-may_fit-clause-meaning : goal.returns-else-may_fit-clause-meani
 returns-else-may_fit-clause-meaning c = λ env. c.none.ensures.meaning env
     ∙ sym (not_live (is_live_in c.args.context.now.decls.now c.args.context.now.tokens.now c.args.form.now.pattern.now
     c.args.form.now.tree.now && may_stand c.args.role c.args.form.now.tree.now)
-    (λ (s : Place). fits_at c.args.context.now.decls.now c.args.context.now.tokens.now env c.args.form.now.pattern.now.spot
+    (λ (s : Place). fits_at c.args.context.now.decls.now c.args.context.now.tokens.now c.args.context.now.types.now env c.args.form.now.pattern.now.spot
     c.args.role.kind c.args.form.now.tree.now s.tree)
     (seats c.args.form.now.pattern.now.spot c.args.role.kind c.args.tree.now) (sym c.may_fit.ensures ∙ c.if-may_fit.false))

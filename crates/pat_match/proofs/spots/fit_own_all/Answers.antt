@@ -10,16 +10,18 @@ use Rattle.pat_match.proofs.spots.fit_own_all.Goals as goal
 pub returns-then-forms-trees-clause-meaning : goal.returns-then-forms-trees-clause-meaning
 returns-then-forms-trees-clause-meaning c = λ env. c.none.ensures.meaning env
     ∙ sym (own_fit-uneven_map (is_own c.args.kind c.args.label (length c.args.forms.now))
-    (piece c.args.context.now.decls.now c.args.context.now.tokens.now env) c.args.forms.now c.args.trees.now (λ e. omega (arith, e, c.if-forms-trees.true)))
+    (piece c.args.context.now.decls.now c.args.context.now.tokens.now c.args.context.now.types.now env) c.args.forms.now c.args.trees.now
+    (λ e. omega (arith, e, c.if-forms-trees.true)))
 
 pub loop-i-preserved : goal.loop-i-preserved
 loop-i-preserved c = record {
   even = c.loop-i.invariant.even;
-  rest = λ env. own_fit_step c.args.context.now.decls.now c.args.context.now.tokens.now env (is_own c.args.kind c.args.label (length c.args.forms.now))
+  rest = λ env. own_fit_step c.args.context.now.decls.now c.args.context.now.tokens.now c.args.context.now.types.now env
+      (is_own c.args.kind c.args.label (length c.args.forms.now))
       c.args.forms.now c.args.trees.now c.loop-i.i _ c.index-forms-i.result c.index-trees-i.result _
       (set_denotes c.loop-i.out env) (set_denotes c.in_ok-here.here env) _ (omega arith) (omega arith) c.loop-i.invariant.even
       c.index-forms-i.is c.index-trees-i.is (c.in_ok-out-2.ensures.meaning env) (c.in_ok-here.ensures.meaning env
-      ∙ ap (λ o. not o || fits_tree c.args.context.now.decls.now c.args.context.now.tokens.now env c.index-forms-i.result
+      ∙ ap (λ o. not o || fits_tree c.args.context.now.decls.now c.args.context.now.tokens.now c.args.context.now.types.now env c.index-forms-i.result
       c.index-trees-i.result) c.is_own-own.ensures.value)
       (c.loop-i.invariant.rest env);
   vars = λ v all. c.in_ok-out-2.ensures.vars v (c.loop-i.invariant.vars v all)

@@ -12,6 +12,7 @@ loop-i-preserved c =
     read-at forms c.as_slice-forms.result.now c.loop-i.i c.index-forms-i.result c.as_slice-forms.ensures lt c.index-forms-i.is in
     record {
       meaning = λ env. tried-more (fits_some c.args.target.now.context.now.decls.now c.args.target.now.context.now.tokens.now
+          c.args.target.now.context.now.types.now
           env c.args.target.now.p.now c.args.target.now.role c.args.target.now.tree.now)
           forms c.loop-i.i c.index-forms-i.result _ _ _ _ g
           (c.in_ok-put_set.ensures.meaning env) (c.in_ok-here.ensures.meaning env) (c.loop-i.invariant.meaning env);

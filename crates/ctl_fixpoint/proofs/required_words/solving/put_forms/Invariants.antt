@@ -11,10 +11,10 @@ abbrev pub invariant-loop-i : goal.invariant-loop-i
 invariant-loop-i l = record {
   meaning : (env : Environment) →
       (set_denotes l.entries.items env || list_any
-      (fits_some l.target.context.now.decls.now l.target.context.now.tokens.now env l.target.p.now l.target.role
+      (fits_some l.target.context.now.decls.now l.target.context.now.tokens.now l.target.context.now.types.now env l.target.p.now l.target.role
       l.target.tree.now) (drop l.i l.target.p.now.forms))
       ≡ (set_denotes l.initial.entries.items env
-      || list_any (fits_some l.target.context.now.decls.now l.target.context.now.tokens.now env l.target.p.now l.target.role
+      || list_any (fits_some l.target.context.now.decls.now l.target.context.now.tokens.now l.target.context.now.types.now env l.target.p.now l.target.role
       l.target.tree.now) (drop l.first l.target.p.now.forms));
   vars : (t : Var → Bool) → pattern_vars l.target.context.now.decls.now l.target.context.now.tokens.now t l.target.p.now ≡ true
       → set_vars t l.initial.entries.items ≡ true → set_vars t l.entries.items ≡ true;

@@ -16,6 +16,7 @@ returns-clause-meaning c =
     let le : length c.args.form_groups.now ≤ c.loop-n.n = omega (arith, c.loop-n-test.false) in
     IfOk-weaker c.union.result _ _
     (λ r h env. h env ∙ tried-all (fits_some c.args.target.now.context.now.decls.now c.args.target.now.context.now.tokens.now
+    c.args.target.now.context.now.types.now
     env c.args.target.now.p.now c.args.target.now.role c.args.target.now.tree.now)
     c.args.target.now.p.now.forms c.loop-n.next _ _
     (covers-all c.args.target.now.p.now.spot c.args.target.now.p.now.forms c.args.form_groups.now c.loop-n.n c.loop-n.next

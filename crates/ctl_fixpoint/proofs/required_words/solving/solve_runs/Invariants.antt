@@ -12,9 +12,9 @@ invariant-loop-n l = record {
   covers : Covers l.target.p.now.spot l.target.p.now.forms l.next (drop l.n l.form_groups) (length l.target.p.now.forms);
   meaning : (env : Environment) →
       (set_denotes l.entries.items env || list_any
-      (fits_some l.target.context.now.decls.now l.target.context.now.tokens.now env l.target.p.now l.target.role
+      (fits_some l.target.context.now.decls.now l.target.context.now.tokens.now l.target.context.now.types.now env l.target.p.now l.target.role
       l.target.tree.now) (drop l.next l.target.p.now.forms))
-      ≡ list_any (fits_some l.target.context.now.decls.now l.target.context.now.tokens.now env l.target.p.now l.target.role
+      ≡ list_any (fits_some l.target.context.now.decls.now l.target.context.now.tokens.now l.target.context.now.types.now env l.target.p.now l.target.role
       l.target.tree.now) l.target.p.now.forms;
   vars : (t : Var → Bool) → pattern_vars l.target.context.now.decls.now l.target.context.now.tokens.now t l.target.p.now ≡ true
       → set_vars t l.entries.items ≡ true;

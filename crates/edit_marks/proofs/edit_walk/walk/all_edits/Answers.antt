@@ -16,7 +16,7 @@ returns c =
     let pieces = c.args.lexed.now in
     let all = touches c.args.witnesses.now in
     let es = c.put_witnesses.new.edits.items in
-    same_site c.args.items.now c.args.kinds.now all es (map (λ (p : Bor Pattern). p.now) c.deref-2.result.now) (patterns_body (body rule.body))
+    same_site c.args.items.now c.args.nodes.now all es (map (λ (p : Bor Pattern). p.now) c.deref-2.result.now) (patterns_body (body rule.body))
     c.as_slice-2.result.now rule.vars c.as_slice-3.result.now rule.tokens c.in_ok-ids.ids (ids_of pieces) c.in_ok-files.files (file_tokens pieces)
     (ap (map (λ (p : Bor Pattern). p.now)) c.deref-2.ensures.value ∙ c.in_ok-patterns.ensures
     ∙ ap (λ (b : List Elem). patterns_body (body b)) c.as_slice.ensures)

@@ -20,12 +20,12 @@ returns-clause-fit c =
     let rule = c.args.rule.now in
     let pieces = c.args.lexed.now in
     let items = c.args.items.now in
-    let kinds = c.args.kinds.now in
-    let found = λ (t : Touched). alignment (patterns_body (body rule.body)) rule.vars rule.tokens items kinds (ids_of pieces) t in
+    let nodes = c.args.nodes.now in
+    let found = λ (t : Touched). alignment (patterns_body (body rule.body)) rule.vars rule.tokens items nodes (ids_of pieces) t in
     let P = FitsText (length (ids_of pieces)) in
     let h = c.in_ok-list.ensures in
     subst (λ (l : List Edit). All P l) (sym h.distinct) (once_all P h.all
-    (each_all P (IsEditAt rule items kinds pieces) (touches c.args.witnesses.now) h.all
+    (each_all P (IsEditAt rule items nodes pieces) (touches c.args.witnesses.now) h.all
     (λ t e is. edit_fits rule.vars rule.tokens t.env pieces (found t) e is) h.each))
 
 pub returns-clause-plain : goal.returns-clause-plain
@@ -33,10 +33,10 @@ returns-clause-plain c = λ sound.
     let rule = c.args.rule.now in
     let pieces = c.args.lexed.now in
     let items = c.args.items.now in
-    let kinds = c.args.kinds.now in
-    let pairs = λ (t : Touched). pairs_at (patterns_body (body rule.body)) rule.vars rule.tokens items kinds (ids_of pieces) t in
+    let nodes = c.args.nodes.now in
+    let pairs = λ (t : Touched). pairs_at (patterns_body (body rule.body)) rule.vars rule.tokens items nodes (ids_of pieces) t in
     let P = λ (e : Edit). ArePlainInserts e.inserts in
     let h = c.in_ok-list.ensures in
     subst (λ (l : List Edit). All P l) (sym h.distinct) (once_all P h.all
-    (each_all_with P (IsEditAt rule items kinds pieces) (λ t. HaveSoundBlocks rule.vars rule.tokens t.env) (touches c.args.witnesses.now) h.all
+    (each_all_with P (IsEditAt rule items nodes pieces) (λ t. HaveSoundBlocks rule.vars rule.tokens t.env) (touches c.args.witnesses.now) h.all
     (λ t e own is. edit_plain rule.vars rule.tokens t.env (file_tokens pieces) (pairs t) e is own (blank_indents pieces)) sound h.each))

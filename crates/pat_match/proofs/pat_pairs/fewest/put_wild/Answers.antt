@@ -7,7 +7,7 @@ use Rattle.pat_match.proofs.pat_pairs.fewest.put_wild.Goals as goal
 
 pub returns : goal.returns
 returns c =
-    next_wild c.args.bound.now.context.now.decls.now c.args.bound.now.context.now.tokens.now
+    next_wild c.args.bound.now.context.now.decls.now c.args.bound.now.context.now.tokens.now c.args.bound.now.context.now.types.now
     (total c.args.bound.now.env.now) c.args.child.now.label c.args.child.now.forms.now c.args.child.now.i c.args.taken
     c.in_ok-count.count (c.args.taken + c.in_ok-count.count) c.args.child.now.form.now c.args.members.now
     (take (length c.args.members.now - c.args.taken) (drop c.args.taken c.args.members.now))

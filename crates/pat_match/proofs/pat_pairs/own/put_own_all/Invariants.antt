@@ -10,9 +10,11 @@ abbrev pub invariant-loop-i : goal.invariant-loop-i
 invariant-loop-i l = record {
   even : length l.forms ≡ length l.trees;
   fits : own_fit (is_own l.kind l.label (length l.forms)) l.i
-      (map (piece l.bound.context.now.decls.now l.bound.context.now.tokens.now (total l.bound.env.now)) (drop l.i l.forms)) (drop l.i l.trees) ≡ true;
+      (map (piece l.bound.context.now.decls.now l.bound.context.now.tokens.now l.bound.context.now.types.now (total l.bound.env.now)) (drop l.i l.forms))
+      (drop l.i l.trees) ≡ true;
   found : l.found.items ++ numbers (own_pairs (is_own l.kind l.label (length l.forms)) l.i
-      (map (piece l.bound.context.now.decls.now l.bound.context.now.tokens.now (total l.bound.env.now)) (drop l.i l.forms)) (drop l.i l.trees))
+      (map (piece l.bound.context.now.decls.now l.bound.context.now.tokens.now l.bound.context.now.types.now (total l.bound.env.now)) (drop l.i l.forms))
+      (drop l.i l.trees))
       ≡ l.initial.found.items ++ numbers (own_pairs (is_own l.kind l.label (length l.forms)) 0
-      (map (piece l.bound.context.now.decls.now l.bound.context.now.tokens.now (total l.bound.env.now)) l.forms) l.trees);
+      (map (piece l.bound.context.now.decls.now l.bound.context.now.tokens.now l.bound.context.now.types.now (total l.bound.env.now)) l.forms) l.trees);
 }

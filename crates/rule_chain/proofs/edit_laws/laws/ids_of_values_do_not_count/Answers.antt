@@ -2,5 +2,5 @@ use Rattle.rule_chain.proofs.EditLaws.BareEdits.{edits_without, edits_with}
 use Rattle.rule_chain.proofs.edit_laws.laws.ids_of_values_do_not_count.Goals as goal
 
 pub returns : goal.returns
-returns c = λ witnesses rule items kinds pieces edits.
-    (edits_without rule items kinds pieces witnesses edits, edits_with rule items kinds pieces witnesses edits)
+returns c = λ witnesses rule items nodes pieces edits.
+    (edits_without rule items nodes pieces witnesses edits, edits_with rule items nodes pieces witnesses edits)

@@ -1,5 +1,6 @@
-use Rattle.std.proofs.Common.{◌≡◌, ◌<◌, ℕ, false, length, get_or}
+use Rattle.std.proofs.Common.{◌≡◌, ◌<◌, ℕ, Bool, false, length, get_or}
 use Rattle.c_file.specs.ItemGraphs.Made.{IsMade}
+use Rattle.smpl_patch.specs.Wants.{ask_types}
 use Rattle.rule_chain.specs.FileWitnesses.Chosen.{FindsNothing, AreReady}
 use Rattle.rule_chain.proofs.file_witnesses.choice.candidate_items.Given as goal
 
@@ -8,7 +9,7 @@ invariant-loop-i l = record {
   items : l.graphs.items ≡ l.initial.graphs.items;
   count : l.count ≡ length l.initial.graphs.items;
   so_far : length l.chosen.items ≡ l.i;
-  ready : AreReady l.graphs l.chosen.items;
+  ready : AreReady l.graphs (ask_types l.rule.vars) l.chosen.items;
   nothing : (j : ℕ) → j < length l.chosen.items → get_or l.chosen.items j false ≡ false → FindsNothing l.rule l.initial.graphs.items j;
-  kept : (k : ℕ) → IsMade l.initial.graphs k → IsMade l.graphs k;
+  kept : (typed : Bool) (k : ℕ) → IsMade l.initial.graphs typed k → IsMade l.graphs typed k;
 }

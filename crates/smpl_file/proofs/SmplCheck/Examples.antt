@@ -13,6 +13,7 @@ use Rattle.smpl_patch.specs.declared.rule.Mode.TheVariants as mode
 use Rattle.smpl_patch.specs.declared.rule.Rule.{Rule}
 use Rattle.smpl_patch.specs.declared.rule.Patch.{Patch}
 use Rattle.smpl_patch.specs.declared.fault.PatchFault.TheVariants as fault
+use Rattle.smpl_patch.specs.Wants.{anything}
 use Rattle.smpl_file.specs.SmplCheck.Checks.{first_fault}
 
 abbrev x : Var
@@ -22,7 +23,7 @@ abbrev y : Var
 y = record { rule = 0; name = codes "y" }
 
 abbrev declared : Bool → Var → VarDecl
-declared inherited v = record { var = v; kind = var_kind.Meta meta.Expr; inherited = inherited; not_names = []; not_places = [] }
+declared inherited v = record { var = v; kind = var_kind.Meta meta.Expr; inherited = inherited; not_names = []; not_places = []; wanted = anything }
 
 -- a token with plus code that shows x
 abbrev shows_x : PatToken

@@ -1,5 +1,0 @@
-use Rattle.std.proofs.Common.{◌≡◌, map, take}
-use Rattle.edit_marks.proofs.edit_walk.kinds.node_kinds.Given as goal
-
-abbrev pub invariant-loop-n : goal.invariant-loop-n
-invariant-loop-n l = l.kinds.items ≡ map (λ n. n.kind) (take l.n l.graph.labels)

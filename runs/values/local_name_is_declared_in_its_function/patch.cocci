@@ -1,0 +1,7 @@
+@@
+local idexpression x;
+expression *y;
+@@
+- f
++ g
+  (x, y);

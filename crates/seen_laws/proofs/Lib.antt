@@ -1,0 +1,5 @@
+pub mod WantLemmas
+pub mod MatchLemmas
+pub mod GraphLemmas
+pub mod ItemLemmas
+pub mod Examples

@@ -1,5 +1,5 @@
 -- The definitions at small values, above all where two readings differ.
-use Rattle.std.proofs.Common.{◌≡◌, ℕ, true, false, Some, [], ◌∷◌, refl, codes}
+use Rattle.std.proofs.Common.{◌≡◌, ℕ, Bool, true, false, Some, [], ◌∷◌, refl, codes}
 use Rattle.c_terms.specs.declared.label.Label.TheVariants as label
 use Rattle.c_terms.specs.declared.token.TokenKind.TheVariants as token
 use Rattle.c_terms.specs.declared.token.MetaKind.TheVariants as meta
@@ -8,15 +8,22 @@ use Rattle.c_terms.specs.declared.tree.Tree.TheOpen.{Tree-F}
 use Rattle.smpl_terms.specs.declared.var.Var.{Var}
 use Rattle.smpl_patch.specs.declared.pattern.Spot.TheVariants as spot
 use Rattle.smpl_patch.specs.declared.pattern.Pattern.{Pattern}
+use Rattle.smpl_patch.specs.declared.pattern.VarKind.{VarKind}
 use Rattle.smpl_patch.specs.declared.pattern.VarKind.TheVariants as var_kind
 use Rattle.smpl_patch.specs.declared.pattern.VarDecl.{VarDecl}
+use Rattle.smpl_patch.specs.declared.rule.Rule.{Rule}
+use Rattle.smpl_patch.specs.declared.rule.Dep.TheVariants as depends
+use Rattle.smpl_patch.specs.declared.rule.Mode.TheVariants as mode
+use Rattle.smpl_patch.specs.declared.wanted.Wanted.{Wanted}
+use Rattle.smpl_patch.specs.declared.wanted.NameWanted.TheVariants as name
+use Rattle.smpl_patch.specs.declared.wanted.TypeWanted.TheVariants as type
 use Rattle.smpl_patch.specs.declared.fault.PatchFault.TheVariants as fault
 use Rattle.smpl_patch.specs.Held.{held_at}
 use Rattle.smpl_patch.specs.Patterns.{declared_as}
 use Rattle.smpl_patch.specs.Faults.{first_of}
 use Rattle.smpl_patch.specs.Bodies.{Element, Atom, Block, Gap, AnyOf, End, Then, NoMore, More}
 use Rattle.smpl_patch.specs.Shapes.{is_formed_body, lengths_body, patterns_body}
-use Rattle.smpl_patch.specs.Sound.{is_plus_token, is_gap, is_sound_decl}
+use Rattle.smpl_patch.specs.Sound.{is_plus_token, is_gap, is_sound_decl, is_sound_wanted}
 use Rattle.smpl_patch.specs.Wants.{anything}
 
 -- ---- what is compared
@@ -62,6 +69,40 @@ no_position = refl
 -- a variable of the second rule has that rule's number
 own_number : is_sound_decl [] as_expression ≡ false
 own_number = refl
+
+-- ---- what variables take
+
+abbrev pointer : Wanted
+pointer = record { name = name.Any; ty = type.Pointer 1 }
+
+abbrev decl : VarKind → Bool → Wanted → VarDecl
+decl kind inherited w = record { var = x 0; kind = kind; inherited = inherited; not_names = []; not_places = []; wanted = w }
+
+-- a rule of `expression *x;`
+abbrev first : Rule
+first = record {
+  name = codes "r";
+  depends = depends.Always;
+  mode = mode.Forall;
+  vars = decl (var_kind.Meta meta.Expr) false pointer ∷ [];
+  exports = x 0 ∷ [];
+  body = [];
+  tokens = [];
+}
+
+-- `expression *x;` takes pointers, and no identifier does
+pointers_are_expressions : is_sound_wanted [] (decl (var_kind.Meta meta.Expr) false pointer) ≡ true
+pointers_are_expressions = refl
+
+no_pointer_is_an_identifier : is_sound_wanted [] (decl (var_kind.Meta meta.Ident) false pointer) ≡ false
+no_pointer_is_an_identifier = refl
+
+-- `expression r.x;` takes what x takes in r, which is not every expression
+inherited_as_declared : is_sound_wanted (first ∷ []) (decl (var_kind.Meta meta.Expr) true pointer) ≡ true
+inherited_as_declared = refl
+
+inherited_without_its_type : is_sound_wanted (first ∷ []) (decl (var_kind.Meta meta.Expr) true anything) ≡ false
+inherited_without_its_type = refl
 
 -- ---- faults
 

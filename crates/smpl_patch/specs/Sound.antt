@@ -5,6 +5,7 @@ use Rattle.std.specs.Str.{bytes_eq}
 use Rattle.c_terms.specs.declared.token.TokenKind.{TokenKind}
 use Rattle.c_terms.specs.declared.token.TokenKind.TheVariants as token
 use Rattle.c_terms.specs.declared.token.MetaKind.{MetaKind}
+use Rattle.c_terms.specs.declared.token.MetaKind.TheVariants as meta
 use Rattle.c_terms.specs.Numbers.{meta_number}
 use Rattle.c_terms.specs.declared.tree.Tree.{Tree}
 use Rattle.c_terms.specs.Trees.{leaves, width, join}
@@ -25,6 +26,7 @@ use Rattle.smpl_patch.specs.declared.rule.Dep.TheOpen.{Dep-F}
 use Rattle.smpl_patch.specs.declared.rule.Dep.TheFolds.{fold-Dep}
 use Rattle.smpl_patch.specs.declared.rule.Rule.{Rule}
 use Rattle.smpl_patch.specs.declared.rule.Patch.{Patch}
+use Rattle.smpl_patch.specs.Wants.{is_anything, same_wanted}
 use Rattle.smpl_patch.specs.Bodies.{body}
 use Rattle.smpl_patch.specs.Shapes.{is_formed_body, patterns_body, lengths_body}
 
@@ -58,6 +60,19 @@ abbrev pub is_sound_decl : List Rule → VarDecl → Bool
 is_sound_decl earlier d =
     cond d.inherited (exported_from 0 earlier d.var d.kind) (nat_eq d.var.rule (length earlier))
     && list_all (λ y. exported_from 0 earlier y var_kind.Position) d.not_places
+
+abbrev pub is_declared_with : List VarDecl → VarDecl → Bool
+is_declared_with vars d = list_any (λ e. same_var e.var d.var && same_wanted e.wanted d.wanted) vars
+
+-- the rule with the variable's number declares that it takes the same expressions; the first of the rules has the number n
+abbrev pub wanted_in : ℕ → List Rule → VarDecl → Bool
+wanted_in n [] d = false
+wanted_in n (r ∷ rs) d = (nat_eq n d.var.rule && is_declared_with r.vars d) || wanted_in (n + 1) rs d
+
+-- only an expression may have to be more than that; an inherited one takes what it takes in its rule
+abbrev pub is_sound_wanted : List Rule → VarDecl → Bool
+is_sound_wanted earlier d =
+    (is_anything d.wanted || same_kind d.kind (var_kind.Meta meta.Expr)) && cond d.inherited (wanted_in 0 earlier d) true
 
 -- the variable is the rule's own
 abbrev pub is_own_var : List VarDecl → Var → Bool
@@ -156,6 +171,7 @@ pub record IsSoundRule (earlier : List Rule) (r : Rule) : Type 0 where
   pub names : none_alike (λ d e. bytes_eq d.var.name e.var.name) r.vars ≡ true
   pub exports : list_all (is_own_var r.vars) r.exports ≡ true
   pub vars : list_all (is_sound_decl earlier) r.vars ≡ true
+  pub wanted : list_all (is_sound_wanted earlier) r.vars ≡ true
   pub depends : is_below (length earlier) r.depends ≡ true
   pub atoms : none_alike (λ p q. nat_eq p.atom q.atom) (patterns_body (body r.body)) ≡ true
   pub patterns : list_all (is_sound_pattern r.vars r.tokens) (patterns_body (body r.body)) ≡ true

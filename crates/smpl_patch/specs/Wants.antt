@@ -1,6 +1,7 @@
 -- What expressions must be for metavariables.
-use Rattle.std.specs.Prelude.{Bool, true, false, not, ◌&&◌, ◌||◌, List}
+use Rattle.std.specs.Prelude.{Bool, true, false, not, ◌&&◌, ◌||◌, nat_eq, List}
 use Rattle.std.specs.List.{list_any}
+use Rattle.c_types.specs.Types.{same_type}
 use Rattle.smpl_patch.specs.declared.wanted.NameWanted.{NameWanted}
 use Rattle.smpl_patch.specs.declared.wanted.NameWanted.TheVariants as name
 use Rattle.smpl_patch.specs.declared.wanted.TypeWanted.{TypeWanted}
@@ -31,6 +32,22 @@ is_anything w = is_any_name w.name && not (is_typed w.ty)
 -- it takes the types of an item to tell which of its expressions are wanted
 abbrev pub asks_types : Wanted → Bool
 asks_types w = is_local_wanted w.name || is_typed w.ty
+
+abbrev pub same_name : NameWanted → NameWanted → Bool
+same_name name.Any name.Any = true
+same_name name.Name name.Name = true
+same_name name.Local name.Local = true
+same_name _ _ = false
+
+abbrev pub same_wanted_type : TypeWanted → TypeWanted → Bool
+same_wanted_type type.Any type.Any = true
+same_wanted_type (type.Is s) (type.Is t) = same_type s t
+same_wanted_type (type.Pointer n) (type.Pointer m) = nat_eq n m
+same_wanted_type _ _ = false
+
+-- the same expressions are wanted
+abbrev pub same_wanted : Wanted → Wanted → Bool
+same_wanted v w = same_name v.name w.name && same_wanted_type v.ty w.ty
 
 -- one of the variables asks for types
 abbrev pub ask_types : List VarDecl → Bool

@@ -1,7 +1,6 @@
 -- The definitions at small declarations and expressions, above all where they could be read in two ways.
 use Rattle.std.proofs.Common.{◌≡◌, ℕ, true, false, refl, List, [], ◌∷◌, Option, None, Some}
 use Rattle.std.specs.Prelude.{codes}
-use Rattle.c_terms.specs.declared.token.Token.{Token}
 use Rattle.c_terms.specs.declared.token.TokenKind.{TokenKind}
 use Rattle.c_terms.specs.declared.token.TokenKind.TheVariants as kind
 use Rattle.c_terms.specs.declared.label.Label.TheVariants as label
@@ -9,14 +8,12 @@ use Rattle.c_terms.specs.declared.tree.Tree.{Tree}
 use Rattle.c_terms.specs.declared.tree.Tree.TheVariants.{Leaf, Branch}
 use Rattle.c_terms.proofs.SameLemmas.{out-Leaf, out-Branch}
 use Rattle.c_types.specs.declared.ty.Ty.{Ty}
-use Rattle.c_types.specs.declared.ty.Ty.TheVariants.{Basic, Named, Tag, Enumer, Ptr, Array, Fun}
-use Rattle.c_typing.specs.declared.binding.Binding.{Binding}
+use Rattle.c_types.specs.declared.ty.Ty.TheVariants.{Basic, Named, Tag, Ptr, Array}
 use Rattle.c_typing.specs.Base.{shortest, base_type}
 use Rattle.c_typing.specs.Declarators.{declared, declared_name}
-use Rattle.c_typing.specs.Declarations.{declared_for_rest}
 use Rattle.c_typing.specs.Names.{last_type}
 use Rattle.c_typing.specs.Fields.{Field, field_type, with_field}
-use Rattle.c_typing.specs.Expressions.{branch_type, type_at, binary_type, common}
+use Rattle.c_typing.specs.Expressions.{branch_type, binary_type}
 use Rattle.c_typing.proofs.FoldLemmas.{name_leaf, name_branch, shaped_leaf, shaped_branch}
 
 abbrev leaf : TokenKind → List ℕ → Tree

@@ -1,5 +1,5 @@
 -- Declarators: the name in one, and the type that it makes of the type that the specifiers name (6.7.6).
-use Rattle.std.specs.Prelude.{ℕ, ◌-◌, List, [], ◌∷◌, map, length, Option, None, Some, slice_get, if◌then◌else◌}
+use Rattle.std.specs.Prelude.{ℕ, ◌-◌, List, map, length, Option, None, Some, slice_get, if◌then◌else◌}
 use Rattle.std.specs.Option.{option_map, option_flatten, option_or}
 use Rattle.c_terms.specs.declared.label.Label.{Label}
 use Rattle.c_terms.specs.declared.label.Label.TheVariants as label

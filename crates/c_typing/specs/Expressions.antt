@@ -1,6 +1,6 @@
 -- The type of an expression, given the types of its parts (6.5).
 use Rattle.std.specs.Prelude.{ℕ, Bool, ◌||◌, List, [], ◌∷◌, Option, None, Some, slice_get, codes, if◌then◌else◌}
-use Rattle.std.specs.Option.{option_and_then, option_map, option_flatten}
+use Rattle.std.specs.Option.{option_and_then, option_flatten}
 use Rattle.c_terms.specs.declared.label.Label.{Label}
 use Rattle.c_terms.specs.declared.label.Label.TheVariants as label
 use Rattle.c_terms.specs.declared.tree.Tree.{Tree}

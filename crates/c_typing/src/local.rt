@@ -3,8 +3,7 @@ ghost use Rattle.std.specs.Prelude.{◌≡◌, ◌++◌, [], ◌∷◌, IfOk, On
 ghost use Rattle.c_typing.specs.Locals as spec;
 
 use crate::bindings::Bindings;
-use crate::declaration::declared_for_rest;
-use crate::scope::push_all;
+use crate::scope::push_rest;
 use c_terms::{NoMemory, Token, TokenKind, Tree, is_expression_part};
 use sqlite_items::Items;
 use std::alloc::Global;
@@ -71,7 +70,7 @@ fn put_locals(
                 let is_part = is_expression_part(*label, i, child);
                 put_local(is_part, locals, child, found)?;
                 put_locals(alloc, child, locals, found)?;
-                push_all(alloc, declared_for_rest(alloc, *label, child)?, locals)?;
+                push_rest(alloc, *label, child, locals)?;
             }
             locals.truncate(outer);
             Ok(())

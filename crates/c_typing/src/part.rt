@@ -7,10 +7,10 @@ ghost use Rattle.c_types.specs.Tables.{typed, with_type, with_all, with_ids};
 ghost use Rattle.c_typing.specs.ItemTypes.{item_types};
 
 use crate::bindings::Bindings;
-use crate::declaration::{declared_for_rest, own_name};
+use crate::declaration::own_name;
 use crate::expression::{branch_type, flat, type_at};
 use crate::local::local_names;
-use crate::scope::{Scope, push_all};
+use crate::scope::{Scope, push_all, push_rest};
 use c_terms::{NoMemory, Token, TokenKind, Tree, is_expression_part};
 use c_types::{TreeKey, Ty, TypeTable, copy_type, expression_keys};
 use sqlite_items::Items;
@@ -80,7 +80,7 @@ fn put_types(
             for (i, child) in children.as_slice().iter().enumerate() {
                 let is_part = is_expression_part(*label, i, child);
                 types.push(put_child(alloc, scope, is_part, child, locals, found)?)?;
-                push_all(alloc, declared_for_rest(alloc, *label, child)?, locals)?;
+                push_rest(alloc, *label, child, locals)?;
             }
             let ty = branch_type(
                 alloc,
@@ -156,8 +156,8 @@ fn expression_types(
 /// Returns the types of the expressions of the item, and its local names. They are seen with what the scope has, which is to be
 /// the items before this one in order.
 ///
-/// Linear in the item and in the types that it returns, with at most two look-ups for each name, one for each member, and one
-/// for each name that the item declares. Names are found by a hash with a fixed seed, so names that are chosen to collide cost
+/// Linear in the item and in the types that it returns, with at most three look-ups for each name, one for each member, and
+/// eight for each name that the item declares. Names are found by a hash with a fixed seed, so names that are chosen to collide cost
 /// more. Recurses once per level of the item.
 pub fn annotate(alloc: Global, scope: &Scope, item: &Tree) -> Result<TypeTable, NoMemory>
     ensures types { IfOk result (λ table. table ≡ item_types scope.now item.now) }

@@ -1,13 +1,14 @@
 // What the items of a file have declared.
 ghost use Rattle.std.specs.Prelude.{◌≡◌, ◌++◌, IfOk, OnOk, OnErr, take, length};
 ghost use Rattle.std.specs.Option.{option_copied};
+ghost use Rattle.c_typing.specs.Declarations.{declared_for_rest};
 ghost use Rattle.c_typing.specs.Names.{last_type};
 ghost use Rattle.c_typing.specs.Fields.{field_type};
 ghost use Rattle.c_typing.specs.Scopes as spec;
 
 use crate::binding::Binding;
 use crate::bindings::Bindings;
-use crate::declaration::item_names;
+use crate::declaration::{declared_for_rest, item_names};
 use crate::field::Fields;
 use c_terms::{Label, NoMemory, Tree};
 use c_types::Ty;
@@ -94,6 +95,24 @@ pub(crate) fn push_all(
         bindings.push(alloc, binding)?;
     }
     Ok(())
+}
+
+/// Appends the names that a child of a branch with this label declares for the children that follow it. One step, if the
+/// label is one that declares nothing.
+pub(crate) fn push_rest(
+    alloc: Global,
+    label: Label,
+    child: &Tree,
+    bindings: &mut Bindings,
+) -> Result<(), NoMemory>
+    ensures { OnOk result (bindings.new ≡ bindings.old ++ declared_for_rest label child.now) }
+{
+    match label {
+        Label::Block | Label::ForDecl | Label::Params | Label::FunDef => {
+            push_all(alloc, declared_for_rest(alloc, label, child)?, bindings)
+        }
+        _ => Ok(()),
+    }
 }
 
 impl Fields {

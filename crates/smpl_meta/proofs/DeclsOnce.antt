@@ -1,7 +1,7 @@
 -- Declarations declare one list of items.
 use Rattle.std.specs.Prelude.{IsTrue, MatchBool, option_and_then}
 use Rattle.std.specs.List.{list_any, AllZip}
-use Rattle.std.proofs.Common.{◌≡◌, ℕ, Bool, true, false, Option, None, Some, List, [], ◌∷◌, ◌⊎◌, inl, inr, take, drop, refl, sym, ap, ◌∙◌, subst, arith}
+use Rattle.std.proofs.Common.{◌≡◌, ℕ, Bool, true, false, Option, None, Some, List, [], ◌∷◌, inl, inr, take, drop, refl, sym, ap, ◌∙◌, subst, arith}
 use Rattle.std.proofs.Common.{codes, ◌&&◌}
 use Rattle.c_terms.specs.declared.token.Token.{Token}
 use Rattle.c_terms.specs.declared.tree.Tree.{Tree}
@@ -19,7 +19,7 @@ use Rattle.smpl_meta.specs.Forms.{before_sign, is_kind_word, kind_items, parts}
 use Rattle.smpl_meta.specs.TypeNames.{with_type_names}
 use Rattle.smpl_meta.specs.Typed.{IsRead, tokens_of, is_refused, unless_named, IsSpecs, AreSpecs, item_by, IsDeclarator, IsDeclaratorOf, OneLacks}
 use Rattle.smpl_meta.specs.Typed.{AreDeclarators, declarators, declarator_length, specs_length, AreTyped, IsTyped, is_untyped, untyped_items, AreNames}
-use Rattle.smpl_meta.specs.Declarations.{AreItems, AreFrontItems, AreItemsBefore, IsDeclared, AreDeclared, items_or_none}
+use Rattle.smpl_meta.specs.Declarations.{AreItems, AreFrontItems, AreItemsBefore, AreDeclared, items_or_none}
 use Rattle.smpl_meta.specs.Decls.{AreAnswers}
 
 -- tokens have one tree of a kind

@@ -1,5 +1,5 @@
 -- Types that specifiers in trees name.
-use Rattle.std.proofs.Common.{◌≡◌, ℕ, Bool, false, ◌||◌, List, [], ◌∷◌, map, drop, fold, length, ◌+◌, ◌<◌, get_or, refl, sym, ap, ◌∙◌}
+use Rattle.std.proofs.Common.{◌≡◌, ℕ, false, ◌||◌, List, [], ◌∷◌, map, drop, length, ◌+◌, ◌<◌, get_or, refl, sym, ap, ◌∙◌}
 use Rattle.std.specs.List.{list_any}
 use Rattle.std.proofs.lemmas.List.{drop_more}
 use Rattle.c_terms.specs.declared.token.Token.{Token}

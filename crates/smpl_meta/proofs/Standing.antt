@@ -1,5 +1,5 @@
 -- Tokens can begin a header exactly if the table goes through them.
-use Rattle.std.proofs.Common.{◌≡◌, ℕ, ◌+◌, ◌≤◌, ◌⊎◌, inl, inr, Bool, true, false, List, [], ◌∷◌, ◌++◌, Some, None, refl, sym}
+use Rattle.std.proofs.Common.{◌≡◌, ℕ, ◌≤◌, ◌⊎◌, inl, inr, Bool, true, false, List, [], ◌∷◌, ◌++◌, Some, None, refl, sym}
 use Rattle.std.proofs.Common.{ap, ◌∙◌, subst, codes, append_assoc, arith, if◌then◌else◌}
 use Rattle.smpl_patch.specs.declared.rule.Dep.{Dep}
 use Rattle.smpl_lexer.specs.declared.token.PatchToken.{PatchToken}

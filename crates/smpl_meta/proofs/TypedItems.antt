@@ -1,7 +1,7 @@
 -- Where the items of a declaration come from: it begins with the word for a kind, or each is one of its declarators.
 use Rattle.std.specs.Prelude.{MatchBool, option_and_then}
 use Rattle.std.specs.List.{AllZip}
-use Rattle.std.proofs.Common.{◌≡◌, ℕ, suc, Bool, true, false, Option, None, Some, List, [], ◌∷◌, ◌⊎◌, inl, inr, drop, refl, sym, subst, map}
+use Rattle.std.proofs.Common.{◌≡◌, ℕ, suc, Bool, true, false, Option, None, Some, List, [], ◌∷◌, ◌⊎◌, inl, inr, drop, refl, sym, subst}
 use Rattle.std.proofs.Common.{codes, option_map, slice_get, ◌&&◌, take}
 use Rattle.c_terms.specs.declared.token.Token.{Token}
 use Rattle.c_terms.specs.declared.tree.Tree.{Tree}

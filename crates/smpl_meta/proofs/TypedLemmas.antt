@@ -1,5 +1,5 @@
 -- Typed declarations that are read part by part.
-use Rattle.std.proofs.Common.{◌≡◌, ℕ, zero, suc, ◌+◌, ◌-◌, ◌<◌, ◌≤◌, ◌⊎◌, inl, inr, ◌&&◌, ◌||◌, not, Bool, true, false, eqb, List, [], ◌∷◌}
+use Rattle.std.proofs.Common.{◌≡◌, ℕ, suc, ◌+◌, ◌-◌, ◌<◌, ◌≤◌, inl, inr, ◌&&◌, Bool, true, false, eqb, List, [], ◌∷◌}
 use Rattle.std.proofs.Common.{◌++◌, length, take, drop, slice_range, Option, Some, None, Result, Ok, Err, option_map, refl, sym, ap, ◌∙◌, subst}
 use Rattle.std.proofs.Common.{get_or, arith, if◌then◌else◌, append_assoc, codes}
 use Rattle.std.specs.Prelude.{IfOk, MatchBool, option_and_then}
@@ -16,7 +16,6 @@ use Rattle.c_rows.specs.declared.kind.Kind.{Kind}
 use Rattle.c_rows.specs.declared.kind.Kind.TheVariants as kinds
 use Rattle.c_rows.specs.Look.{Names}
 use Rattle.c_rows.specs.Depth.{opens_of}
-use Rattle.c_rows.specs.Limits.{most_open}
 use Rattle.c_expr.specs.declared.fault.ParseFault.{ParseFault}
 use Rattle.c_expr.specs.declared.fault.ParseFault.TheVariants.{NoTree, TooDeep}
 use Rattle.c_expr.specs.Answer.{Reads}
@@ -28,7 +27,7 @@ use Rattle.smpl_lexer.proofs.Stops.{at_token}
 use Rattle.smpl_meta.specs.declared.item.Item.{Item}
 use Rattle.smpl_meta.specs.Forms.{put, all_of, is_kind_word, kind_items}
 use Rattle.smpl_meta.specs.Typed.{can_follow, named_after, is_tag_word, specs_from, specs_length, depth_after, declarator_length, declarators}
-use Rattle.smpl_meta.specs.Typed.{tokens_of, IsRead, IsPlain, AreSpecs, declarator_item, IsDeclarator, SomeLacks, AreTyped, IsTyped, AreNames}
+use Rattle.smpl_meta.specs.Typed.{IsRead, IsPlain, AreSpecs, declarator_item, IsDeclarator, SomeLacks, AreTyped, IsTyped, AreNames}
 use Rattle.smpl_meta.specs.Declarations.{AreItems, is_local, AreFrontItems}
 use Rattle.smpl_meta.proofs.SplitLemmas.{le_cases, with_chunks, no_chunks}
 

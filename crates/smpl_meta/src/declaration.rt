@@ -12,8 +12,8 @@ use smpl_patch::NameWanted;
 use sqlite_items::Items;
 use std::alloc::Global;
 
-/// Returns the items of a declaration that doesn't begin with `local idexpression`, without its `;`. One that doesn't begin with
-/// the word for a kind is typed.
+/// Returns the items of a declaration that doesn't begin with `local idexpression`, without its `;`. One that doesn't begin
+/// with the word for a kind is typed.
 fn plain_items(
     alloc: Global,
     context: &TypeContext<'_>,

@@ -1,4 +1,4 @@
-use Rattle.std.proofs.Common.{◌≡◌, ◌++◌, [], cond, sym, ap, ◌∙◌, arith, take, append_assoc}
+use Rattle.std.proofs.Common.{◌≡◌, ◌++◌, [], cond, refl, sym, ap, ◌∙◌, arith, take, append_assoc}
 use Rattle.std.proofs.lemmas.List.{append-nil}
 use Rattle.std.proofs.Math.Seq.{take-append_seam}
 use Rattle.c_terms.specs.declared.tree.Tree.TheVariants.{Branch}
@@ -38,9 +38,9 @@ loop-i-preserved t c =
     let all : c.put_locals.new.found ≡ c.loop-i.found ++ child_locals is_part c.loop-i.locals child =
     c.in_ok-put_locals-in-Branch.ensures.ids ∙ ap (λ ids. ids ++ deep) c.in_ok-put_local-in-Branch.ensures ∙ append_assoc c.loop-i.found own deep in
     record {
-      locals = locals-next label items c.loop-i.i child names c.loop-i.locals c.put_locals.new.locals c.push_all.new.bindings _
-          c.loop-i-test.true c.child-item.is c.loop-i.invariant.locals c.in_ok-put_locals-in-Branch.ensures.locals c.in_ok-declared_for_rest-in-Branch.ensures
-          c.in_ok-push_all-in-Branch.ensures.ok;
+      locals = locals-next label items c.loop-i.i child names c.loop-i.locals c.put_locals.new.locals c.push_rest.new.bindings _
+          c.loop-i-test.true c.child-item.is c.loop-i.invariant.locals c.in_ok-put_locals-in-Branch.ensures.locals refl
+          c.in_ok-push_rest-in-Branch.ensures;
       found = locals-more names label items c.loop-i.i child c.loop-i-test.true c.child-item.is c.loop-i.found c.put_locals.new.found _
           is_part c.is_expression_part-is_part.ensures.value
           (all ∙ ap (λ ns. c.loop-i.found ++ child_locals is_part ns child) c.loop-i.invariant.locals)

@@ -1,4 +1,4 @@
-use Rattle.std.proofs.Common.{◌≡◌, ◌+◌, ◌++◌, [], ◌∷◌, None, sym, ap, ◌∙◌, arith, take, length, length-append}
+use Rattle.std.proofs.Common.{◌≡◌, ◌+◌, ◌++◌, [], ◌∷◌, None, refl, sym, ap, ◌∙◌, arith, take, length, length-append}
 use Rattle.std.specs.Prelude.{slice_set as set}
 use Rattle.std.proofs.lemmas.List.{append-nil}
 use Rattle.std.proofs.lemmas.Result.{IfOk-weaker}
@@ -43,9 +43,9 @@ put_types-loop-i-preserved t c =
     let seen : c.args.scope.now.names ++ c.loop-i.locals ≡ names ++ before label items c.loop-i.i =
     seen-names c.args.scope.now.names c.args.locals.now (before label items c.loop-i.i) c.loop-i.locals c.loop-i.invariant.locals in
     record {
-      locals = locals-next label items c.loop-i.i child c.args.locals.now c.loop-i.locals c.put_child.new.locals c.push_all.new.bindings _
-          c.loop-i-test.true c.child-item.is c.loop-i.invariant.locals c.in_ok-put_child-in-Branch.ensures.locals c.in_ok-declared_for_rest-in-Branch.ensures
-          c.in_ok-push_all-in-Branch.ensures.ok;
+      locals = locals-next label items c.loop-i.i child c.args.locals.now c.loop-i.locals c.put_child.new.locals c.push_rest.new.bindings _
+          c.loop-i-test.true c.child-item.is c.loop-i.invariant.locals c.in_ok-put_child-in-Branch.ensures.locals refl
+          c.in_ok-push_rest-in-Branch.ensures;
       types = seen-more names fields label items c.loop-i.i child c.loop-i.types.items c.push.new.self.items _ c.in_ok-put_child-in-Branch.field-0
           c.loop-i-test.true c.child-item.is (c.in_ok-put_child-in-Branch.ensures.own ∙ ap (λ ns. type_of ns fields child) seen)
           c.in_ok-push-in-Branch.ensures.items c.loop-i.invariant.types;

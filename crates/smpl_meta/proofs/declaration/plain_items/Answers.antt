@@ -1,10 +1,9 @@
-use Rattle.std.proofs.Common.{◌≡◌, ◌<◌, ℕ, Option, List, sym, ◌∙◌, drop, length, true, false, codes, arith}
+use Rattle.std.proofs.Common.{◌≡◌, ◌<◌, Option, List, sym, ◌∙◌, drop, length, arith}
 use Rattle.std.specs.Prelude.{IfOk}
 use Rattle.std.proofs.lemmas.List.{take_rest}
 use Rattle.smpl_patch.specs.declared.wanted.NameWanted.TheVariants as names
-use Rattle.smpl_lexer.specs.Tokens.{is_word}
 use Rattle.smpl_meta.specs.declared.item.Item.{Item}
-use Rattle.smpl_meta.specs.Forms.{is_kind_word, kind_items}
+use Rattle.smpl_meta.specs.Forms.{kind_items}
 use Rattle.smpl_meta.specs.Typed.{IsTyped, AreNames}
 use Rattle.smpl_meta.specs.Declarations.{AreItems}
 use Rattle.smpl_meta.proofs.TypedLemmas.{if_ok, items_of_kind, items_of_names, items_of_type}

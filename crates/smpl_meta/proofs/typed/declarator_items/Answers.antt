@@ -1,6 +1,5 @@
-use Rattle.std.proofs.Common.{◌≡◌, ◌≤◌, ◌<◌, length, take, drop, subst, arith, Option, List, None, Some}
+use Rattle.std.proofs.Common.{◌≡◌, ◌≤◌, ◌<◌, length, take, drop, subst, arith, Option}
 use Rattle.std.proofs.lemmas.List.{take_rest, length-drop}
-use Rattle.smpl_lexer.specs.declared.token.PatchToken.{PatchToken}
 use Rattle.smpl_meta.specs.declared.item.Item.{Item}
 use Rattle.smpl_meta.specs.Typed.{declarator_length, IsDeclarator}
 use Rattle.smpl_meta.proofs.TypedLemmas.{read_first, read_none, read_last, read_more}

@@ -12,7 +12,8 @@ returns-then-is_untyped c =
     let plain : is_untyped (take (declarator_length 0 ts) ts) ≡ true =
     ap (λ (k : ℕ). is_untyped (take k ts)) (sym c.declarator_length-n.ensures.value) ∙ (sym c.is_untyped.ensures ∙ c.if-is_untyped.true) in
     if_ok (λ (o : Option (List Item)). o ≡ untyped_items name ts) (λ (o : Option (List Item)). AreNames types name ts o)
-    (λ o are. if_true (o ≡ untyped_items name ts) (IsTyped types name ts o) (is_untyped (take (declarator_length 0 ts) ts)) plain are) c.untyped_items.result c.untyped_items.ensures
+    (λ o are. if_true (o ≡ untyped_items name ts) (IsTyped types name ts o) (is_untyped (take (declarator_length 0 ts) ts)) plain are)
+    c.untyped_items.result c.untyped_items.ensures
 
 pub returns-else-is_untyped : goal.returns-else-is_untyped
 returns-else-is_untyped c =
@@ -22,4 +23,5 @@ returns-else-is_untyped c =
     let typed : is_untyped (take (declarator_length 0 ts) ts) ≡ false =
     ap (λ (k : ℕ). is_untyped (take k ts)) (sym c.declarator_length-n.ensures.value) ∙ (sym c.is_untyped.ensures ∙ c.if-is_untyped.false) in
     if_ok (λ (o : Option (List Item)). IsTyped types name ts o) (λ (o : Option (List Item)). AreNames types name ts o)
-    (λ o are. if_false (o ≡ untyped_items name ts) (IsTyped types name ts o) (is_untyped (take (declarator_length 0 ts) ts)) typed are) c.typed_items.result c.typed_items.ensures
+    (λ o are. if_false (o ≡ untyped_items name ts) (IsTyped types name ts o) (is_untyped (take (declarator_length 0 ts) ts)) typed are)
+    c.typed_items.result c.typed_items.ensures

@@ -1,4 +1,4 @@
-use Rattle.std.proofs.Common.{◌≡◌, Option, List, None, Some, refl, subst, take, drop}
+use Rattle.std.proofs.Common.{Option, List, None, Some, refl, subst, take, drop}
 use Rattle.std.proofs.lemmas.List.{take_rest}
 use Rattle.std.specs.Prelude.{IfOk}
 use Rattle.c_terms.specs.declared.tree.Tree.{Tree}

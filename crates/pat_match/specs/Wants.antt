@@ -1,22 +1,16 @@
 -- Which expressions a metavariable wants, at their places.
 use Rattle.std.specs.Prelude.{ℕ, zero, suc, Bool, true, false, ◌&&◌, Option, None, Some}
 use Rattle.std.specs.Option.{option_map_or}
-use Rattle.c_terms.specs.declared.token.TokenKind.{TokenKind}
-use Rattle.c_terms.specs.declared.token.TokenKind.TheVariants as kind
 use Rattle.c_terms.specs.declared.tree.Tree.{Tree, out-Tree}
 use Rattle.c_terms.specs.declared.tree.Tree.TheOpen.{Tree-F}
 use Rattle.c_types.specs.declared.ty.Ty.{Ty}
 use Rattle.c_types.specs.Types.{same_type, element}
-use Rattle.c_types.specs.Tables.{ItemTypes, type_in, is_local}
+use Rattle.c_types.specs.Tables.{ItemTypes, type_in, is_local, is_name_kind}
 use Rattle.smpl_patch.specs.declared.wanted.NameWanted.{NameWanted}
 use Rattle.smpl_patch.specs.declared.wanted.NameWanted.TheVariants as names
 use Rattle.smpl_patch.specs.declared.wanted.TypeWanted.{TypeWanted}
 use Rattle.smpl_patch.specs.declared.wanted.TypeWanted.TheVariants as types
 use Rattle.smpl_patch.specs.declared.wanted.Wanted.{Wanted}
-
-abbrev pub is_name_kind : TokenKind → Bool
-is_name_kind kind.Name = true
-is_name_kind _ = false
 
 abbrev pub is_name : Tree-F Tree → Bool
 is_name (Tree-F.Leaf a) = is_name_kind a.kind

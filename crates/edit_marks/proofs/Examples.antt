@@ -9,7 +9,7 @@ use Rattle.smpl_patch.specs.declared.pattern.PlusLine.{PlusLine}
 use Rattle.smpl_patch.specs.declared.pattern.PlusBlock.{PlusBlock}
 use Rattle.edit_marks.specs.declared.insert.Anchor.TheVariants.{Removed, AfterLine, AfterToken, BeforeToken}
 use Rattle.edit_marks.specs.Blocks.{block_text, block_ends}
-use Rattle.edit_marks.specs.Inserts.{insert_of, indent_at}
+use Rattle.edit_marks.specs.Inserts.{insert_of, indent_at, returns_in, returns_at, line_end}
 use Rattle.edit_marks.specs.Edits.{anchor_of}
 use Rattle.edit_marks.specs.Tokens.{file_tokens}
 
@@ -71,13 +71,54 @@ indent = refl
 at_a_newline : indent_at (codes "  a" ++ 10 ∷ 9 ∷ codes "b") 3 ≡ codes "  "
 at_a_newline = refl
 
+-- a line ends in a carriage return and a newline, or in a newline, or with the text
+line_with_return : returns_in (codes "a" ++ 13 ∷ 10 ∷ codes "b" ++ 10 ∷ []) ≡ true
+line_with_return = refl
+
+only_the_next_line_has_one : returns_in (codes "a" ++ 10 ∷ codes "b" ++ 13 ∷ 10 ∷ []) ≡ false
+only_the_next_line_has_one = refl
+
+return_within_a_line : returns_in (codes "a" ++ 13 ∷ codes "b" ++ 10 ∷ []) ≡ false
+return_within_a_line = refl
+
+return_ends_the_text : returns_in (codes "a" ++ 13 ∷ []) ≡ false
+return_ends_the_text = refl
+
+line_of_a_return : returns_in (13 ∷ 10 ∷ []) ≡ true
+line_of_a_return = refl
+
+no_line : returns_in [] ≡ false
+no_line = refl
+
+-- the line that the place is in, not the one before it
+last_line : returns_at (codes "a" ++ 13 ∷ 10 ∷ codes "b") 3 ≡ false
+last_line = refl
+
+line_before_it : returns_at (codes "a" ++ 13 ∷ 10 ∷ codes "b") 2 ≡ true
+line_before_it = refl
+
+after_a_line_with_return : insert_of (anchor_of false true (codes ";")) (line_end true ++ 9 ∷ []) (codes "b();") true ≡ 13 ∷ 10 ∷ 9 ∷ codes "b();"
+after_a_line_with_return = refl
+
+before_a_line_with_return : insert_of (anchor_of false false (codes "a")) (line_end true ++ 9 ∷ []) (codes "b();") true ≡ codes "b();" ++ 13 ∷ 10 ∷ 9 ∷ []
+before_a_line_with_return = refl
+
 -- `a`, a newline and a tab, `b ;`: the tokens of the second line share its tab
 two_lines : List TextPiece
 two_lines =
     record { kind = Word Name 0; text = codes "a" } ∷ record { kind = Blank; text = 10 ∷ 9 ∷ [] } ∷ record { kind = Word Name 1; text = codes "b" }
     ∷ record { kind = Blank; text = codes " " } ∷ record { kind = Word Punct 2; text = codes ";" } ∷ []
 
-by_lines : file_tokens two_lines ≡ record { text = codes "a"; indent = [] } ∷ record { text = codes "b"; indent = 9 ∷ [] }
-    ∷ record { text = codes ";"; indent = 9 ∷ [] } ∷ []
+by_lines : file_tokens two_lines ≡ record { text = codes "a"; indent = []; returns = false } ∷ record { text = codes "b"; indent = 9 ∷ []; returns = false }
+    ∷ record { text = codes ";"; indent = 9 ∷ []; returns = false } ∷ []
 unfolding two_lines
 by_lines = refl
+
+-- the same where the first line ends in a carriage return and a newline
+with_a_return : List TextPiece
+with_a_return =
+    record { kind = Word Name 0; text = codes "a" } ∷ record { kind = Blank; text = 13 ∷ 10 ∷ 9 ∷ [] } ∷ record { kind = Word Name 1; text = codes "b" } ∷ []
+
+by_line_ends : file_tokens with_a_return ≡ record { text = codes "a"; indent = []; returns = true } ∷ record { text = codes "b"; indent = 9 ∷ []; returns = false } ∷ []
+unfolding with_a_return
+by_line_ends = refl

@@ -9,7 +9,7 @@ use Rattle.std.proofs.lemmas.Bool.{cases_eq}
 use Rattle.c_lexer.specs.declared.piece.PieceKind.{PieceKind}
 use Rattle.c_lexer.specs.declared.piece.PieceKind.TheVariants.{Word, Blank, Comment, Line}
 use Rattle.c_lexer.specs.Pieces.{TextPiece, text_of}
-use Rattle.edit_marks.specs.Inserts.{line_start, indent_at}
+use Rattle.edit_marks.specs.Inserts.{line_start, indent_at, returns_in, returns_at}
 use Rattle.edit_marks.specs.declared.file_tokens.FileToken.{FileToken}
 use Rattle.edit_marks.specs.declared.file_tokens.TokenPlace.{TokenPlace}
 use Rattle.edit_marks.specs.Tokens.{token_of, tokens_from, file_tokens, blanks_at, token_at, places_of, IsWithin}
@@ -70,7 +70,7 @@ pub drop_here : {A : Type 0} (xs : List A) (i : ℕ) (x : A) → slice_get xs i 
 drop_here xs i x at = let one : suc i ≡ i + 1 = omega arith in from_place xs i x at ∙ ap (λ (n : ℕ). x ∷ drop n xs) one
 
 one_place : (bytes : List ℕ) (k : PieceKind) (p : TokenPlace)
-    → map (token_at bytes) (places_of k p) ≡ token_of k (slice_range bytes p.start p.end) (blanks_at bytes p.line)
+    → map (token_at bytes) (places_of k p) ≡ token_of k (slice_range bytes p.start p.end) (blanks_at bytes p.line) p.returns
 one_place bytes (Word a id) p = refl
 one_place bytes Blank p = refl
 one_place bytes Comment p = refl
@@ -85,22 +85,23 @@ pub token_more : (pieces : List TextPiece) (bytes : List ℕ) (i : ℕ) (k : Pie
     → bytes ≡ text_of pieces → p.start ≡ length (text_of (take i pieces)) → p.end ≡ length (text_of (take (i + 1) pieces))
     → p.start < p.end → p.end ≤ length (text_of pieces)
     → slice_get pieces i ≡ Some (record { kind = k; text = slice_range (text_of pieces) p.start p.end })
-    → p.line ≡ line_start (text_of pieces) (length (text_of (take i pieces)))
+    → p.line ≡ line_start (text_of pieces) (length (text_of (take i pieces))) → p.returns ≡ returns_in (drop p.line bytes)
     → next ≡ found ++ places_of k p
     → map (token_at bytes) found ++ tokens_from (text_of pieces) (length (text_of (take i pieces))) (drop i pieces) ≡ file_tokens pieces
     → map (token_at bytes) next ++ tokens_from (text_of pieces) (length (text_of (take (i + 1) pieces))) (drop (i + 1) pieces) ≡ file_tokens pieces
-token_more pieces bytes i k p found next same begins ends less within at line is h =
+token_more pieces bytes i k p found next same begins ends less within at line returns is h =
     let all = text_of pieces in
     let place = length (text_of (take i pieces)) in
     let text = slice_range all p.start p.end in
-    let own = token_of k text (indent_at all place) in
+    let own = token_of k text (indent_at all place) (returns_at all place) in
     let before = map (token_at bytes) found in
     let rest = λ (n : ℕ). tokens_from all n (drop (i + 1) pieces) in
     let long : length text ≡ p.end - p.start = length-take-le (p.end - p.start) (drop p.start all) (omega (arith, length-drop p.start all)) in
     let behind : place + length text ≡ length (text_of (take (i + 1) pieces)) = omega (arith, long, begins, ends) in
     let written : map (token_at bytes) next ≡ before ++ own =
     ap (map (token_at bytes)) is ∙ mapped bytes found (places_of k p) ∙ ap (λ (l : List FileToken). before ++ l) (one_place bytes k p)
-    ∙ (λ j. before ++ token_of k (slice_range (same j) p.start p.end) (blanks_at (same j) (line j))) in
+    ∙ (λ j. before ++ token_of k (slice_range bytes p.start p.end) (blanks_at bytes p.line) (returns j))
+    ∙ (λ j. before ++ token_of k (slice_range (same j) p.start p.end) (blanks_at (same j) (line j)) (returns_in (drop (line j) (same j)))) in
     ap (λ (l : List FileToken). l ++ rest (length (text_of (take (i + 1) pieces)))) written
     ∙ append_assoc before own (rest (length (text_of (take (i + 1) pieces))))
     ∙ ap (λ (n : ℕ). before ++ (own ++ rest n)) (sym behind)

@@ -17,7 +17,7 @@ use Rattle.smpl_patch.specs.declared.pattern.PlusBlock.{PlusBlock}
 use Rattle.edit_marks.specs.declared.spot.PlusSpot.{PlusSpot}
 use Rattle.edit_marks.specs.declared.file_tokens.FileToken.{FileToken}
 use Rattle.edit_marks.specs.Blocks.{Environment, block_text, last_of_lines, block_ends, ends_line, AreEven}
-use Rattle.edit_marks.specs.Inserts.{insert_of}
+use Rattle.edit_marks.specs.Inserts.{insert_of, line_end}
 use Rattle.c_show.specs.PlainText.{IsPlainText}
 use Rattle.edit_marks.specs.Plain.{AreSpaces, AreSoundLines}
 use Rattle.edit_marks.specs.Removals.{minus_tokens}
@@ -48,7 +48,7 @@ insert_of_block decls env removed s block file = record {
   token = s.token;
   side = side_of s.after;
   many = block.many;
-  text = insert_text_of decls env block (anchor_of (list_any (λ n. n == s.token) removed) s.after file.text) (10 ∷ file.indent);
+  text = insert_text_of decls env block (anchor_of (list_any (λ n. n == s.token) removed) s.after file.text) (line_end file.returns ++ file.indent);
 }
 
 abbrev pub insert_if : List VarDecl → Environment → List ℕ → PlusSpot → Option PlusBlock → Option FileToken → List Insert

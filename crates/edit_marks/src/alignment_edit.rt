@@ -2,6 +2,7 @@
 ghost use Rattle.std.specs.Prelude.{◌≡◌, ◌++◌, ◌∷◌, Some, IfOk, OnOk, IfSome, option_copied, slice_get};
 ghost use Rattle.edit_marks.specs.Blocks.{AreEven};
 ghost use Rattle.edit_marks.specs.Edits.{HaveEvenBlocks, HaveSoundBlocks, HaveBlankIndents, ArePlainInserts, EditOf, block_of, side_of, anchor_of, insert_if, insert_of_block, inserts_at};
+ghost use Rattle.edit_marks.specs.Inserts.{line_end};
 
 use crate::edit_conflict::{Edit, Insert, Side};
 use crate::file_tokens::{FileToken, FileTokens};
@@ -160,7 +161,7 @@ fn insert_of_block(
     ensures { IfOk result (λ insert. insert
         ≡ insert_of_block decls.now env.now removed.now spot.now block.now file.now) }
 {
-    let joint = joint(alloc, file.indent.as_bytes())?;
+    let joint = joint(alloc, file.returns, file.indent.as_bytes())?;
     let is_removed = removed.contains(&spot.token);
     let anchor = anchor_of(is_removed, spot.after, file.text.as_bytes());
     let text = insert_text(alloc, decls, env, block, anchor, &joint)?;
@@ -173,11 +174,14 @@ fn insert_of_block(
     })
 }
 
-/// Returns a newline followed by these blanks.
-fn joint(alloc: Global, indent: &[u8]) -> Result<Vec<u8>, NoMemory>
-    ensures { IfOk result (λ joint. joint.items ≡ 10 ∷ indent.now) }
+/// Returns a line end followed by these blanks. The line end is a newline, with a carriage return before it if `returns`.
+fn joint(alloc: Global, returns: bool, indent: &[u8]) -> Result<Vec<u8>, NoMemory>
+    ensures { IfOk result (λ joint. joint.items ≡ line_end returns ++ indent.now) }
 {
     let mut joint = Vec::new(alloc);
+    if returns {
+        joint.push(b'\r')?;
+    }
     joint.push(b'\n')?;
     joint.extend_from_slice(indent)?;
     Ok(joint)

@@ -1,7 +1,7 @@
 // The tokens of a text.
-ghost use Rattle.std.specs.Prelude.{◌≡◌, ◌==◌, ◌≤◌, ◌++◌, IfOk, OnOk, length, slice_get};
+ghost use Rattle.std.specs.Prelude.{◌≡◌, ◌==◌, ◌≤◌, ◌++◌, not, drop, IfOk, OnOk, length, slice_get};
 ghost use Rattle.std.specs.List.{list_any, prefix_len};
-ghost use Rattle.edit_marks.specs.Inserts.{line_start};
+ghost use Rattle.edit_marks.specs.Inserts.{line_start, first_line, returns_in};
 ghost use Rattle.edit_marks.specs.Tokens.{file_tokens, places_of};
 
 use crate::insert::{blanks, line_start};
@@ -10,19 +10,23 @@ use c_terms::{NoMemory, Text};
 use std::alloc::Global;
 use std::marker::Model;
 
-/// A token of the file: its text, and the blanks that begin its line.
+/// A token of the file: its text, the blanks that begin its line, and how its line ends.
 #[derive(Drop)]
 pub struct FileToken {
     pub text: Text,
     pub indent: Text,
+    /// Whether its line ends in a carriage return and a newline.
+    pub returns: bool,
 }
 
-/// Where a token is: its first byte, the byte after its last, and where its line begins.
+/// Where a token is: its first byte, the byte after its last, where its line begins, and how its line ends.
 #[derive(Clone, Copy)]
 pub struct TokenPlace {
     pub start: u32,
     pub end: u32,
     pub line: u32,
+    /// Whether the line ends in a carriage return and a newline.
+    pub returns: bool,
 }
 
 /// The tokens of a text in order. Contracts see their list; only their places are stored.
@@ -47,22 +51,26 @@ impl<'a> Model for FileTokens<'a> {
 
 impl<'a> FileTokens<'a> {
     /// Creates the tokens of a text. Linear: the start of a line is searched for once after each piece in which a line
-    /// begins. Takes twelve bytes per token.
+    /// begins, and its end once. Takes sixteen bytes per token.
     pub fn of(alloc: Global, lexed: &'a Lexed) -> Result<FileTokens<'a>, NoMemory>
         ensures { IfOk result (λ tokens. tokens ≡ file_tokens lexed.now) }
     {
         let bytes = lexed.bytes();
         let mut places = Vec::new(alloc);
         let mut line = 0;
+        let mut returns = returns_in(bytes);
         for i in 0..lexed.count() {
             let piece = lexed.piece(i);
             let place = TokenPlace {
                 start: piece.start,
                 end: piece.end,
                 line,
+                returns,
             };
             put_place(&mut places, piece.kind, place)?;
-            line = line_after(bytes, line, piece.start, piece.end);
+            let next = line_after(bytes, line, piece.start, piece.end);
+            returns = returns_after(bytes, line, next, returns);
+            line = next;
         }
         Ok(FileTokens { bytes, places })
     }
@@ -79,6 +87,7 @@ impl<'a> FileTokens<'a> {
         Ok(Some(FileToken {
             text: Text::from_bytes(alloc, text)?,
             indent: Text::from_bytes(alloc, blanks(line))?,
+            returns: place.returns,
         }))
     }
 }
@@ -108,6 +117,41 @@ fn line_after(bytes: &[u8], line: u32, start: u32, end: u32) -> u32
         return line_start(bytes, end as usize) as u32;
     }
     line
+}
+
+/// Whether the line that begins at `next` ends in a carriage return and a newline, given whether an earlier one does.
+fn returns_after(bytes: &[u8], line: u32, next: u32, returns: bool) -> bool
+    requires within { next ≤ length bytes.now }
+    requires returns { returns ≡ returns_in (drop line bytes.now) }
+    ensures { result ≡ returns_in (drop next bytes.now) }
+{
+    if next == line {
+        return returns;
+    }
+    returns_in(&bytes[next as usize..])
+}
+
+/// Whether the first line of these bytes ends in a carriage return and a newline.
+fn returns_in(bytes: &[u8]) -> bool
+    ensures { result ≡ returns_in bytes.now }
+{
+    first_line(bytes).ends_with(b"\r\n")
+}
+
+/// Returns the bytes up to and including the first newline, or all of them if there is none.
+fn first_line(bytes: &[u8]) -> &[u8]
+    ensures { result.now ≡ first_line bytes.now }
+{
+    let count = line_length(bytes);
+    &bytes[..(count + 1).min(bytes.len())]
+}
+
+/// Returns the number of bytes before the first newline.
+fn line_length(bytes: &[u8]) -> usize
+    ensures value { result ≡ prefix_len (λ b. not (b == 10)) bytes.now }
+    ensures within { result ≤ length bytes.now }
+{
+    bytes.iter().take_while(|byte| **byte != b'\n').count()
 }
 
 fn has_newline(text: &[u8]) -> bool

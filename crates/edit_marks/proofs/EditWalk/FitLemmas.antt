@@ -18,7 +18,7 @@ use Rattle.edit_marks.specs.declared.removals.Aligned.{Aligned}
 use Rattle.edit_marks.specs.declared.spot.PlusSpot.{PlusSpot}
 use Rattle.edit_marks.specs.declared.file_tokens.FileToken.{FileToken}
 use Rattle.edit_marks.specs.Blocks.{Environment}
-use Rattle.edit_marks.specs.Inserts.{indent_at}
+use Rattle.edit_marks.specs.Inserts.{indent_at, returns_at}
 use Rattle.edit_marks.specs.Removals.{is_minus_at, minus_tokens}
 use Rattle.edit_marks.specs.Edits.{block_of, insert_if, inserts_at, EditOf}
 use Rattle.pat_match.specs.declared.pat_pairs.pairs.AlignedToken.{AlignedToken}
@@ -131,7 +131,7 @@ count_of bytes at [] = refl
 count_of bytes at (p ∷ pieces) = by p.kind (count_of bytes (at + length p.text) pieces)
   where
     by : (k : PieceKind) → length (tokens_from bytes (at + length p.text) pieces) ≡ length (ids_of pieces)
-        → length (token_of k p.text (indent_at bytes at) ++ tokens_from bytes (at + length p.text) pieces) ≡ length (id_before k (ids_of pieces))
+        → length (token_of k p.text (indent_at bytes at) (returns_at bytes at) ++ tokens_from bytes (at + length p.text) pieces) ≡ length (id_before k (ids_of pieces))
     by (Word a id) h = ap suc h
     by Blank h = h
     by Comment h = h

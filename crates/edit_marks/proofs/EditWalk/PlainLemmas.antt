@@ -9,7 +9,7 @@ use Rattle.c_lexer.specs.declared.piece.PieceKind.TheVariants.{Word, Blank, Comm
 use Rattle.c_lexer.specs.Pieces.{TextPiece, text_of}
 use Rattle.c_lexer.specs.Words.{is_space}
 use Rattle.edit_marks.specs.declared.file_tokens.FileToken.{FileToken}
-use Rattle.edit_marks.specs.Inserts.{is_blank, line_start, indent_at}
+use Rattle.edit_marks.specs.Inserts.{is_blank, line_start, indent_at, returns_at}
 use Rattle.edit_marks.specs.Plain.{AreSpaces}
 use Rattle.edit_marks.specs.Edits.{HaveBlankIndents}
 use Rattle.edit_marks.specs.Tokens.{token_of, tokens_from, file_tokens}
@@ -40,18 +40,18 @@ front_spaces (b ∷ bs) = front_by b bs (is_blank b) refl (front_spaces bs)
 abbrev IsSpaced : Option FileToken → Type 0
 IsSpaced o = IfSome o (λ f. AreSpaces f.indent)
 
-one_more : (k : PieceKind) (text indent : List ℕ) (rest : List FileToken) (n : ℕ) → AreSpaces indent → ((m : ℕ) → IsSpaced (slice_get rest m))
-    → IsSpaced (slice_get (token_of k text indent ++ rest) n)
-one_more (Word a id) text indent rest zero own h = own
-one_more (Word a id) text indent rest (suc n) own h = h n
-one_more Blank text indent rest n own h = h n
-one_more Comment text indent rest n own h = h n
-one_more Line text indent rest n own h = h n
+one_more : (k : PieceKind) (text indent : List ℕ) (returns : Bool) (rest : List FileToken) (n : ℕ) → AreSpaces indent → ((m : ℕ) → IsSpaced (slice_get rest m))
+    → IsSpaced (slice_get (token_of k text indent returns ++ rest) n)
+one_more (Word a id) text indent returns rest zero own h = own
+one_more (Word a id) text indent returns rest (suc n) own h = h n
+one_more Blank text indent returns rest n own h = h n
+one_more Comment text indent returns rest n own h = h n
+one_more Line text indent returns rest n own h = h n
 
 all_spaced : (bytes : List ℕ) (at : ℕ) (pieces : List TextPiece) (n : ℕ) → IsSpaced (slice_get (tokens_from bytes at pieces) n)
 all_spaced bytes at [] n = tt
 all_spaced bytes at (p ∷ pieces) n =
-    one_more p.kind p.text (indent_at bytes at) (tokens_from bytes (at + length p.text) pieces) n (front_spaces (drop (line_start bytes at) bytes))
+    one_more p.kind p.text (indent_at bytes at) (returns_at bytes at) (tokens_from bytes (at + length p.text) pieces) n (front_spaces (drop (line_start bytes at) bytes))
     (λ m. all_spaced bytes (at + length p.text) pieces m)
 
 pub blank_indents : (pieces : List TextPiece) → HaveBlankIndents (file_tokens pieces)

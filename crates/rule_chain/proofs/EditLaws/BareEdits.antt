@@ -29,7 +29,7 @@ use Rattle.edit_marks.specs.declared.removals.Aligned.{Aligned}
 use Rattle.edit_marks.specs.declared.spot.PlusSpot.{PlusSpot}
 use Rattle.edit_marks.specs.declared.file_tokens.FileToken.{FileToken}
 use Rattle.edit_marks.specs.Blocks.{block_ends}
-use Rattle.edit_marks.specs.Inserts.{insert_of}
+use Rattle.edit_marks.specs.Inserts.{insert_of, line_end}
 use Rattle.edit_marks.specs.Edits.{block_of, side_of, anchor_of, insert_if, inserts_at, EditOf}
 use Rattle.edit_marks.specs.Tokens.{file_tokens}
 use Rattle.edit_marks.specs.EditWalk.Touches.{Values, Touched, bound, touches_in, touches_of, touches}
@@ -94,8 +94,8 @@ module _ (decls : List VarDecl) (tokens : List PatToken) (env : Values) (files :
         token = s.token;
         side = side_of s.after;
         many = block.many;
-        text = insert_of (anchor_of (list_any (λ n. n == s.token) removed) s.after file.text) (10 ∷ file.indent)
-            (block_alike decls env (10 ∷ file.indent) block i)
+        text = insert_of (anchor_of (list_any (λ n. n == s.token) removed) s.after file.text) (line_end file.returns ++ file.indent)
+            (block_alike decls env (line_end file.returns ++ file.indent) block i)
             (block_ends (end_alike decls env None block.lines i));
       } in insert) ∷ []
 

@@ -1,0 +1,9 @@
+void f(void)
+{
+	a();
+}
+
+void g(void)
+{
+	a();
+}

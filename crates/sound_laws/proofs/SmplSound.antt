@@ -1,11 +1,13 @@
 -- Lemmas of smpl_sound.
 pub mod FormLemmas
 pub mod NameLemmas
+pub mod OwnLemmas
 pub mod HomeLemmas
 pub mod DependLemmas
 pub mod LeadLemmas
 pub mod PositionLemmas
 pub mod ExportLemmas
+pub mod WantLemmas
 pub mod PatchLemmas
 pub mod BoolLemmas
 pub mod TextLemmas

@@ -15,7 +15,8 @@ ghost use Rattle.smpl_patch.specs.declared.pattern.Pattern.{Pattern as Shown};
 ghost use Rattle.smpl_patch.specs.declared.pattern.VarKind.TheVariants.{Position};
 ghost use Rattle.smpl_patch.specs.Bodies.{body as plain};
 ghost use Rattle.smpl_patch.specs.Shapes.{is_formed_body, patterns_body};
-ghost use Rattle.smpl_patch.specs.Sound.{declares, none_alike, is_own_var, is_sound_decl, is_below, is_sound_pattern, lengths};
+ghost use Rattle.smpl_patch.specs.Sound.{declares, none_alike, is_own_var, is_sound_decl, is_sound_wanted, is_below};
+ghost use Rattle.smpl_patch.specs.Sound.{is_sound_pattern, lengths};
 ghost use Rattle.sound_laws.specs.SmplFormed.Bodies.{AllStand};
 ghost use Rattle.smpl_file.specs.Patches.{IsSpelled};
 ghost use Rattle.sound_laws.specs.SmplSound.Parts.{EachPasses, EachHas, leads_token, whole_token, gaps_token};
@@ -34,6 +35,8 @@ use smpl_plus::tokens_keep_their_lines;
 /// - `exports`: a rule declares as its own each variable that it exports.
 /// - `vars`: an inherited variable, and each excluded position, has the number of an earlier rule that exports it with the
 ///   same kind; any other variable has the number of its rule.
+/// - `wanted`: only an expression variable has to be more than an expression, and an inherited one takes what it takes in
+///   the rule with its number.
 /// - `positions`: the positions at a rule's tokens are declared.
 /// - `leads`: the first gap of a line of plus code, if it has one, is as long as the line's lead.
 /// - `whole`: each token of plus code is a token of C or a declared metavariable.
@@ -59,6 +62,8 @@ pub fn patches_are_sound()
         EachPasses (λ earlier r. list_all (is_own_var r.vars) r.exports) [] patch.rules }
     ensures vars { (bytes : List ℕ) (patch : Whole) → IsSpelled bytes patch →
         EachPasses (λ earlier r. list_all (is_sound_decl earlier) r.vars) [] patch.rules }
+    ensures wanted { (bytes : List ℕ) (patch : Whole) → IsSpelled bytes patch →
+        EachPasses (λ earlier r. list_all (is_sound_wanted earlier) r.vars) [] patch.rules }
     ensures positions { (bytes : List ℕ) (patch : Whole) → IsSpelled bytes patch →
         EachPasses (λ earlier r. list_all (λ (t : Word). list_all (λ x. declares r.vars x Position) t.positions)
         r.tokens) [] patch.rules }

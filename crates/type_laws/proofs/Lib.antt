@@ -1,8 +1,10 @@
 pub mod IdLemmas
 pub mod PathLemmas
 pub mod KeyLemmas
+pub mod SameLemmas
 pub mod TableLemmas
 pub mod PlaceLemmas
 pub mod TokenLemmas
 pub mod ReadLemmas
+pub mod WantLemmas
 pub mod Examples

@@ -43,24 +43,28 @@ no-token : (ts : List Token) → 0 < length ts → option_map (λ (a : Token). a
 no-token [] h e = omega (arith, h)
 no-token (a ∷ ts) h e = none-some a.id (sym e)
 
-abbrev IsAt : Tree → ℕ → Place → Type 0
+abbrev pub IsAt : Tree → ℕ → Place → Type 0
 IsAt item k p = slice_get (parts is_expression_part item) k ≡ Some p
 
+abbrev pub IsIn : Tree → Place → Type 0
+IsIn item p = subtree item p.path ≡ Some p.tree
+
+pub part-in : (item : Tree) (k : ℕ) (p : Place) → IsAt item k p → IsIn item p
+part-in item k p e = parts-found is_expression_part item k p e
+
 module _ (item : Tree) (distinct : IsDistinct nat_eq (ids item)) where
-  same-place : (j k : ℕ) (p q : Place) → IsAt item j p → IsAt item k q → (x : ℕ) → first_id p.tree ≡ Some x → first_id q.tree ≡ Some x
+  same-place : (p q : Place) → IsIn item p → IsIn item q → (x : ℕ) → first_id p.tree ≡ Some x → first_id q.tree ≡ Some x
       → levels p.tree ≡ levels q.tree → p ≡ q
-  same-place j k p q e f x g h n =
-      let u : subtree item p.path ≡ Some p.tree = parts-found is_expression_part item j p e in
-      let v : subtree item q.path ≡ Some q.tree = parts-found is_expression_part item k q f in
+  same-place p q u v x g h n =
       let path : p.path ≡ q.path = same_path p.path q.path item p.tree q.tree x distinct u v
       (first-among (leaves p.tree) x g) (first-among (leaves q.tree) x h) n in
       let tree : p.tree ≡ q.tree = same_Some p.tree q.tree (sym u ∙ ap (subtree item) path ∙ v) in
       λ i. record { path = path i; tree = tree i }
 
   -- two places with the same key are the same, if the first has a token
-  pub same-key-place : (j k : ℕ) (p q : Place) → levels item < 2 ^ 64 → IsAt item j p → IsAt item k q → 0 < length (leaves p.tree)
+  pub same-key-place : (p q : Place) → levels item < 2 ^ 64 → IsIn item p → IsIn item q → 0 < length (leaves p.tree)
       → key_of p.tree ≡ key_of q.tree → p ≡ q
-  same-key-place j k p q few e f token same = by (first_id p.tree) refl
+  same-key-place p q few u v token same = by (first_id p.tree) refl
     where
       fewer : (m n o : ℕ) → m ≤ o → n ≤ o → o < 2 ^ 64 → min m (2 ^ 64 - 1) ≡ min n (2 ^ 64 - 1) → m ≡ n
       fewer m n o a b c d = omega arith
@@ -68,11 +72,18 @@ module _ (item : Tree) (distinct : IsDistinct nat_eq (ids item)) where
       by : (o : Option ℕ) → first_id p.tree ≡ o → p ≡ q
       by None n = absurd (no-token (leaves p.tree) token n)
       by (Some x) g =
-          same-place j k p q e f x g (sym (ap (λ (k : TreeKey). k.first) same) ∙ g)
-          (fewer (levels p.tree) (levels q.tree) (levels item) (sub-levels p.path item p.tree (parts-found is_expression_part item j p e))
-          (sub-levels q.path item q.tree (parts-found is_expression_part item k q f)) few (ap (λ (k : TreeKey). k.levels) same))
+          same-place p q u v x g (sym (ap (λ (k : TreeKey). k.first) same) ∙ g)
+          (fewer (levels p.tree) (levels q.tree) (levels item) (sub-levels p.path item p.tree u) (sub-levels q.path item q.tree v) few
+          (ap (λ (k : TreeKey). k.levels) same))
 
   -- the type at a place is found by the key
+  pub type-found : (s : Scope) (k : ℕ) (p : Place) (ty : Option Ty) → levels item < 2 ^ 64 → IsAt item k p
+      → part_type (s.names ++ own_name item) s.fields item p ≡ ty → 0 < length (leaves p.tree) → type_in (item_types s item) p.tree ≡ ty
+  type-found s k p ty few e here token =
+      let at : Place → Option Ty = part_type (s.names ++ own_name item) s.fields item in
+      table-at (λ (q : Place). key_of q.tree) at (parts is_expression_part item) (key_of p.tree) ty
+      (λ j q f same. ap at (sym (same-key-place p q few (part-in item k p e) (part-in item j q f) token same)) ∙ here) k p e refl
+
   pub type-at-place : (s : Scope) (k : ℕ) (p : Place) (ty : Option Ty) → levels item < 2 ^ 64 → IsAt item k p
       → slice_get (part_types (s.names ++ own_name item) s.fields item) k ≡ Some ty → 0 < length (leaves p.tree)
       → type_in (item_types s item) p.tree ≡ ty
@@ -80,8 +91,7 @@ module _ (item : Tree) (distinct : IsDistinct nat_eq (ids item)) where
       let at : Place → Option Ty = part_type (s.names ++ own_name item) s.fields item in
       let here : part_type (s.names ++ own_name item) s.fields item p ≡ ty = same_Some _ ty
       (ap (option_map at) (sym e) ∙ sym (slice_get-map at (parts is_expression_part item) k) ∙ t) in
-      table-at (λ (q : Place). key_of q.tree) at (parts is_expression_part item) (key_of p.tree) ty
-      (λ j q f same. ap at (sym (same-key-place k j p q few e f token same)) ∙ here) k p e refl
+      type-found s k p ty few e here token
 
 -- ---- local names
 
@@ -127,7 +137,8 @@ module _ (s : Scope) (item : Tree) (distinct : IsDistinct nat_eq (ids item)) (k 
     none-else : (j : ℕ) (q : Place) → IsAt item j q → has_id (listed q) a.id ≡ true → has_id (listed p) a.id ≡ true
     none-else j q f h =
         let t : IsTokenOf q.tree a.id = from-token (names_at q) a.id q.tree h in
-        let same : q ≡ p = same-place item distinct j k q p f at a.id t.0 (ap first_id leaf ∙ first-leaf a) (t.1 ∙ sym (ap levels leaf ∙ levels-Leaf a)) in
+        let same : q ≡ p = same-place item distinct q p (part-in item j q f) (part-in item k p at) a.id t.0 (ap first_id leaf ∙ first-leaf a)
+        (t.1 ∙ sym (ap levels leaf ∙ levels-Leaf a)) in
         ap (λ x. has_id (listed x) a.id) (sym same) ∙ h
 
     declared : (b : Bool) → is_declared (names_at p) a ≡ b → (is_name_kind a.kind && has_id (local_names item) a.id) ≡ b

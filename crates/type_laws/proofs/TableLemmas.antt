@@ -101,6 +101,31 @@ module _ {A : Type 0} (key : A → TreeKey) (ty : A → Option Ty) where
   table-at xs k o h j x e f =
       all-types (typed (map key xs) (map ty xs)) [] k ∙ typed-at xs k o h ∙ ap (λ b. cond b o None) (listed xs k j x e f)
 
+  -- an entry with the key and the type
+  abbrev pub From : List A → TreeKey → Ty → Type 0
+  From xs k t = (j : ℕ) × (x : A) × (slice_get xs j ≡ Some x) × (k ≡ key x) × (ty x ≡ Some t)
+
+  from-later : (x : A) (xs : List A) (k : TreeKey) (t : Ty) → From xs k t → From (x ∷ xs) k t
+  from-later x xs k t f = (suc f.0, f.1, f.2, f.3, f.4)
+
+  found-from : (xs : List A) (k : TreeKey) (t : Ty) → type_at (typed (map key xs) (map ty xs)) k ≡ Some t → From xs k t
+  found-from [] k t e = absurd (none-some t e)
+  found-from (x ∷ xs) k t e = by (λ f. from-later x xs k t (found-from xs k t f)) (ty x) refl e
+    where
+      here : (type_at (typed (map key xs) (map ty xs)) k ≡ Some t → From (x ∷ xs) k t) → (b : Bool) → same_key k (key x) ≡ b → (u : Ty)
+          → ty x ≡ Some u → cond b (Some u) (type_at (typed (map key xs) (map ty xs)) k) ≡ Some t → From (x ∷ xs) k t
+      here rest true g u f e = (0, x, refl, key-same k (key x) g, f ∙ e)
+      here rest false g u f e = rest e
+
+      by : (type_at (typed (map key xs) (map ty xs)) k ≡ Some t → From (x ∷ xs) k t) → (o : Option Ty) → ty x ≡ o
+          → type_at (typed (key x ∷ map key xs) (o ∷ map ty xs)) k ≡ Some t → From (x ∷ xs) k t
+      by rest None f e = rest e
+      by rest (Some u) f e = here rest (same_key k (key x)) refl u f e
+
+  -- what a table of these finds comes from one of them
+  pub table-from : (xs : List A) (k : TreeKey) (t : Ty) → type_at (with_all [] (typed (map key xs) (map ty xs))) k ≡ Some t → From xs k t
+  table-from xs k t e = found-from xs k t (sym (all-types (typed (map key xs) (map ty xs)) [] k) ∙ e)
+
 -- ---- ids
 
 id-more : (xs : List ℕ) (y x : ℕ) → has_id (with_id xs y) x ≡ (has_id xs x || has_id (y ∷ []) x)

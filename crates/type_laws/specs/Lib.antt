@@ -1,2 +1,3 @@
--- What the laws are about: the ids in an item, and the names that are local at a place.
+-- What the laws are about: the ids in an item, the names that are local at a place, and the expressions that have a type there.
 pub mod Places
+pub mod Typed

@@ -9,6 +9,8 @@
 //!   local there.
 //! - [`read_items_meet_premises`], [`read_tables_are_by_place`]: this holds of the items of a text in which no id is twice.
 //! - [`premises_are_needed`]: of types it need not hold without tokens, nor where an id is twice.
+//! - [`same_types_are_equal`], [`typed_variables_take_their_types`]: so a variable that wants a type takes exactly the
+//!   expressions that have it at their places.
 //!
 //! The functions do nothing.
 #![tactic(auto)]
@@ -33,6 +35,10 @@ ghost use Rattle.cpp_lines.specs.declared.reading.Item.{Item};
 ghost use Rattle.cpp_lines.specs.declared.reading.Item.TheVariants.{Parsed};
 ghost use Rattle.c_file.specs.Reads.{Reads};
 ghost use Rattle.type_laws.specs.Places.{ids, is_local_at};
+
+mod wanted;
+
+pub use wanted::{same_types_are_equal, typed_variables_take_their_types};
 
 /// In an item of fewer than 2^64 levels in which no id is twice, two expressions of which the first has a token are at
 /// the same place if they have the same key. Does nothing.

@@ -5,6 +5,7 @@ use Rattle.std.specs.Prelude.{nat_lt, cond}
 use Rattle.std.specs.List.{list_all, list_any}
 use Rattle.std.specs.Str.{bytes_eq}
 use Rattle.c_terms.specs.Trees.{join}
+use Rattle.c_terms.specs.declared.token.MetaKind.TheVariants as meta
 use Rattle.smpl_terms.specs.declared.var.Var.{Var}
 use Rattle.smpl_terms.specs.Vars.{same_var}
 use Rattle.smpl_patch.specs.declared.pattern.VarKind.{VarKind}
@@ -18,7 +19,9 @@ use Rattle.smpl_patch.specs.declared.rule.Rule.{Rule}
 use Rattle.smpl_patch.specs.declared.rule.Patch.{Patch}
 use Rattle.smpl_patch.specs.Bodies.{Body, body}
 use Rattle.smpl_patch.specs.Shapes.{is_formed_body, patterns_body, lengths_body, members}
-use Rattle.smpl_patch.specs.Sound.{none_alike, declares, exported_from, is_sound_decl, is_own_var, is_below, is_sound_pattern}
+use Rattle.smpl_patch.specs.Wants.{is_anything}
+use Rattle.smpl_patch.specs.Sound.{same_kind, none_alike, declares, exported_from, is_sound_decl, is_own_var, is_below, is_sound_pattern}
+use Rattle.smpl_patch.specs.Sound.{is_declared_with, wanted_in, is_sound_wanted}
 use Rattle.smpl_patch.specs.Sound.{is_sound_token, lengths_block, lengths, IsSoundRule, AreSoundRules, IsSound}
 use Rattle.iso_expand.specs.Bodies.{expanded_pattern, forms_body}
 use Rattle.iso_expand.specs.Patches.{IsExpandedRule, AreExpanded, IsExpanded}
@@ -74,7 +77,7 @@ all_fine : (vars : List VarDecl) (tokens : List PatToken) (isos : List Iso) → 
 all_fine vars tokens [] f = tt
 all_fine vars tokens (iso ∷ isos) f = ((f.0.covered, f.0.narrow), all_fine vars tokens isos f.1)
 
--- ---- what earlier rules export
+-- ---- what earlier rules declare and export
 
 module _ (isos : List Iso) where
   exported-same : (n : ℕ) (rs ss : List Rule) → AreExpanded isos rs ss → (x : Var) (k : VarKind) → exported_from n ss x k ≡ exported_from n rs x k
@@ -85,6 +88,14 @@ module _ (isos : List Iso) where
       ap (λ (es : List Var). (nat_eq n x.rule && (list_any (λ y. same_var y x) es && declares s.vars x k)) || exported_from (n + 1) ss x k) h.0.exports
       ∙ ap (λ (vs : List VarDecl). (nat_eq n x.rule && (list_any (λ y. same_var y x) r.exports && declares vs x k)) || exported_from (n + 1) ss x k) h.0.vars
       ∙ ap (λ (b : Bool). (nat_eq n x.rule && (list_any (λ y. same_var y x) r.exports && declares r.vars x k)) || b) (exported-same (n + 1) rs ss h.1 x k)
+
+  wanted-same : (n : ℕ) (rs ss : List Rule) → AreExpanded isos rs ss → (d : VarDecl) → wanted_in n ss d ≡ wanted_in n rs d
+  wanted-same n [] [] h d = refl
+  wanted-same n [] (s ∷ ss) h d = absurd h
+  wanted-same n (r ∷ rs) [] h d = absurd h
+  wanted-same n (r ∷ rs) (s ∷ ss) h d =
+      ap (λ (vs : List VarDecl). (nat_eq n d.var.rule && is_declared_with vs d) || wanted_in (n + 1) ss d) h.0.vars
+      ∙ ap (λ (b : Bool). (nat_eq n d.var.rule && is_declared_with r.vars d) || b) (wanted-same (n + 1) rs ss h.1 d)
 
   pub length-same : (rs ss : List Rule) → AreExpanded isos rs ss → length ss ≡ length rs
   length-same [] [] h = refl
@@ -114,6 +125,10 @@ module _ (isos : List Iso) where
       ∙ ap (λ (n : ℕ). cond d.inherited (exported_from 0 rs d.var d.kind) (nat_eq d.var.rule n)
       && list_all (λ (y : Var). exported_from 0 ss y var_kind.Position) d.not_places) b
       ∙ ap (λ (x : Bool). cond d.inherited (exported_from 0 rs d.var d.kind) (nat_eq d.var.rule (length rs)) && x) c
+
+  takes-same : (rs ss : List Rule) → AreExpanded isos rs ss → (d : VarDecl) → is_sound_wanted ss d ≡ is_sound_wanted rs d
+  takes-same rs ss h d =
+      ap (λ (b : Bool). (is_anything d.wanted || same_kind d.kind (var_kind.Meta meta.Expr)) && cond d.inherited b true) (wanted-same 0 rs ss h d)
 
   -- ---- a rule
 
@@ -159,6 +174,8 @@ module _ (isos : List Iso) where
       exports = ap (λ (vs : List VarDecl). list_all (is_own_var vs) s.exports) h.vars ∙ ap (list_all (is_own_var r.vars)) h.exports ∙ q.exports;
       vars = ap (list_all (is_sound_decl before)) h.vars
           ∙ all-same (is_sound_decl before) (is_sound_decl earlier) (decl-same earlier before are) r.vars ∙ q.vars;
+      wanted = ap (list_all (is_sound_wanted before)) h.vars
+          ∙ all-same (is_sound_wanted before) (is_sound_wanted earlier) (takes-same earlier before are) r.vars ∙ q.wanted;
       depends = ap (λ (d : Dep). is_below (length before) d) h.depends ∙ ap (λ (n : ℕ). is_below n r.depends) (length-same earlier before are) ∙ q.depends;
       atoms = ap (none_alike (λ (p : Pattern) (u : Pattern). nat_eq p.atom u.atom)) patterns_are
           ∙ atoms-differ X (λ p. refl) (patterns_body (body r.body)) ∙ q.atoms;

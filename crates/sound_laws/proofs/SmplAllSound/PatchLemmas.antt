@@ -16,7 +16,7 @@ use Rattle.smpl_patch.specs.declared.rule.Rule.{Rule}
 use Rattle.smpl_patch.specs.declared.rule.Patch.{Patch}
 use Rattle.smpl_patch.specs.Bodies.{body as plain}
 use Rattle.smpl_patch.specs.Shapes.{is_formed_body, patterns_body}
-use Rattle.smpl_patch.specs.Sound.{declares, none_alike, is_own_var, is_sound_decl, is_below, is_sound_pattern, lengths}
+use Rattle.smpl_patch.specs.Sound.{declares, none_alike, is_own_var, is_sound_decl, is_sound_wanted, is_below, is_sound_pattern, lengths}
 use Rattle.smpl_patch.specs.Sound.{is_plus_token, is_gap, leads, is_sound_line, is_sound_block, is_sound_token, AreSoundRules}
 use Rattle.smpl_patch.specs.Sound.{IsSound}
 use Rattle.smpl_lexer.specs.declared.text.BodyLine.{BodyLine}
@@ -130,6 +130,7 @@ pub record Parts (earlier rules : List Rule) : Type 0 where
   pub names : EachPasses (λ earlier r. none_alike (λ d e. bytes_eq d.var.name e.var.name) r.vars) earlier rules
   pub exports : EachPasses (λ earlier r. list_all (is_own_var r.vars) r.exports) earlier rules
   pub vars : EachPasses (λ earlier r. list_all (is_sound_decl earlier) r.vars) earlier rules
+  pub wanted : EachPasses (λ earlier r. list_all (is_sound_wanted earlier) r.vars) earlier rules
   pub depends : EachPasses (λ earlier r. is_below (length earlier) r.depends) earlier rules
   pub atoms : EachPasses (λ earlier r. none_alike (λ (p q : Pattern). nat_eq p.atom q.atom) (patterns_body (plain r.body))) earlier rules
   pub patterns : EachPasses (λ earlier r. list_all (is_sound_pattern r.vars r.tokens) (patterns_body (plain r.body))) earlier rules
@@ -147,6 +148,7 @@ rules-sound earlier (r ∷ rs) p e = (
     names = p.names.0;
     exports = p.exports.0;
     vars = p.vars.0;
+    wanted = p.wanted.0;
     depends = p.depends.0;
     atoms = p.atoms.0;
     patterns = p.patterns.0;
@@ -158,6 +160,7 @@ rules-sound earlier (r ∷ rs) p e = (
     names = p.names.1;
     exports = p.exports.1;
     vars = p.vars.1;
+    wanted = p.wanted.1;
     depends = p.depends.1;
     atoms = p.atoms.1;
     patterns = p.patterns.1;

@@ -12,12 +12,13 @@ use Rattle.smpl_terms.proofs.VarLaws.{same_var-refl}
 use Rattle.smpl_patch.specs.declared.pattern.VarDecl.{VarDecl}
 use Rattle.smpl_patch.specs.declared.pattern.VarKind.{VarKind}
 use Rattle.smpl_patch.specs.declared.pattern.VarKind.TheVariants.{Meta, Position}
+use Rattle.smpl_patch.specs.declared.wanted.Wanted.{Wanted}
 use Rattle.smpl_patch.specs.declared.rule.Rule.{Rule}
 use Rattle.smpl_patch.specs.Sound.{same_kind, declares, exported_from, is_sound_decl, is_own_var}
 use Rattle.smpl_meta.specs.declared.head.RuleHead.{RuleHead}
 use Rattle.smpl_meta.specs.Known.{kind_number}
 use Rattle.smpl_file.specs.Exports.{taken_by, taken_by_all, has_var, is_exported, exports_of}
-use Rattle.sound_laws.proofs.SmplSound.HomeLemmas.{Is, OwnIn, Home, HomeAll, GoodDecl, GoodDecls}
+use Rattle.sound_laws.proofs.SmplSound.OwnLemmas.{Is, OwnIn, Home, HomeAll, GoodDecl, GoodDecls}
 
 -- ---- tests
 
@@ -82,30 +83,30 @@ exports-own vs (d ∷ ds) = by (is_exported vs d) refl (own-later d ds (exports_
 
 -- ---- what is taken is exported
 
-module _ (vs : List Variable) (x : Variable) (known : has_var vs x ≡ true) (k : VarKind) where
+module _ (vs : List Variable) (x : Variable) (known : has_var vs x ≡ true) (k : VarKind) (w : Wanted) where
   exported-by : (ds : List VarDecl) (d : VarDecl) (b : Bool) → list_any (λ y. same_var y x) (exports_of vs ds) ≡ true
       → list_any (λ y. same_var y x) (if b then d.var ∷ exports_of vs ds else exports_of vs ds) ≡ true
   exported-by ds d true e = or-right (same_var d.var x) (list_any (λ y. same_var y x) (exports_of vs ds)) e
   exported-by ds d false e = e
 
-  exported-here : (ds : List VarDecl) (d : VarDecl) (b : Bool) → is_exported vs d ≡ b → Is x k d
+  exported-here : (ds : List VarDecl) (d : VarDecl) (b : Bool) → is_exported vs d ≡ b → Is x k w d
       → list_any (λ y. same_var y x) (if b then d.var ∷ exports_of vs ds else exports_of vs ds) ≡ true
   exported-here ds d true h is =
       or-left (same_var d.var x) (list_any (λ y. same_var y x) (exports_of vs ds)) (ap (λ (y : Variable). same_var y x) is.0 ∙ same_var-refl x)
   exported-here ds d false h is =
-      let yes : is_exported vs d ≡ true = both-true (not d.inherited) (has_var vs d.var) (ap not is.1.0) (ap (has_var vs) is.0 ∙ known) in
+      let yes : is_exported vs d ≡ true = both-true (not d.inherited) (has_var vs d.var) (ap not is.1) (ap (has_var vs) is.0 ∙ known) in
       absurd (true≢false (sym yes ∙ h))
 
-  own-exported : (ds : List VarDecl) → OwnIn ds x k → list_any (λ y. same_var y x) (exports_of vs ds) ≡ true
+  own-exported : (ds : List VarDecl) → OwnIn ds x k w → list_any (λ y. same_var y x) (exports_of vs ds) ≡ true
   own-exported [] o = absurd o
   own-exported (d ∷ ds) (inl is) = exported-here ds d (is_exported vs d) refl is
   own-exported (d ∷ ds) (inr o) = exported-by ds d (is_exported vs d) (own-exported ds o)
 
-  own-declared : (ds : List VarDecl) → OwnIn ds x k → declares ds x k ≡ true
+  own-declared : (ds : List VarDecl) → OwnIn ds x k w → declares ds x k ≡ true
   own-declared [] o = absurd o
   own-declared (d ∷ ds) (inl is) =
       or-left (same_var d.var x && same_kind d.kind k) (declares ds x k)
-      (both-true (same_var d.var x) (same_kind d.kind k) (ap (λ (y : Variable). same_var y x) is.0 ∙ same_var-refl x) (kinds d.kind k is.1.1))
+      (both-true (same_var d.var x) (same_kind d.kind k) (ap (λ (y : Variable). same_var y x) is.0 ∙ same_var-refl x) (kinds d.kind k is.2))
   own-declared (d ∷ ds) (inr o) = or-right (same_var d.var x && same_kind d.kind k) (declares ds x k) (own-declared ds o)
 
 -- the rules have the declarations of the heads, and export what is taken
@@ -119,18 +120,18 @@ same-number : (n m : ℕ) → n ≡ m → nat_eq n m ≡ true
 same-number n m e = grind (arith, nat_tests)
 
 pub home-exported : (vs : List Variable) (n : ℕ) (hs : List RuleHead) (rs : List Rule) (x : Variable) (k : VarKind)
-    → has_var vs x ≡ true → Under vs hs rs → Home n hs x k
+    (w : Wanted) → has_var vs x ≡ true → Under vs hs rs → Home n hs x k w
     → exported_from n rs x k ≡ true
-home-exported vs n [] rs x k known u o = absurd o
-home-exported vs n (h ∷ hs) [] x k known u o = absurd u
-home-exported vs n (h ∷ hs) (r ∷ rs) x k known u (inl is) =
-    let exports = ap (list_any (λ y. same_var y x)) u.0.1 ∙ own-exported vs x known k h.vars is.1 in
-    let declared = ap (λ (ds : List VarDecl). declares ds x k) u.0.0 ∙ own-declared vs x known k h.vars is.1 in
+home-exported vs n [] rs x k w known u o = absurd o
+home-exported vs n (h ∷ hs) [] x k w known u o = absurd u
+home-exported vs n (h ∷ hs) (r ∷ rs) x k w known u (inl is) =
+    let exports = ap (list_any (λ y. same_var y x)) u.0.1 ∙ own-exported vs x known k w h.vars is.1 in
+    let declared = ap (λ (ds : List VarDecl). declares ds x k) u.0.0 ∙ own-declared vs x known k w h.vars is.1 in
     or-left (nat_eq n x.rule && (list_any (λ y. same_var y x) r.exports && declares r.vars x k)) (exported_from (n + 1) rs x k)
     (both-true (nat_eq n x.rule) (list_any (λ y. same_var y x) r.exports && declares r.vars x k) (same-number n x.rule is.0)
     (both-true (list_any (λ y. same_var y x) r.exports) (declares r.vars x k) exports declared))
-home-exported vs n (h ∷ hs) (r ∷ rs) x k known u (inr o) =
-    let more : exported_from (n + 1) rs x k ≡ true = ap (λ (m : ℕ). exported_from m rs x k) (omega arith) ∙ home-exported vs (suc n) hs rs x k known u.1 o in
+home-exported vs n (h ∷ hs) (r ∷ rs) x k w known u (inr o) =
+    let more : exported_from (n + 1) rs x k ≡ true = ap (λ (m : ℕ). exported_from m rs x k) (omega arith) ∙ home-exported vs (suc n) hs rs x k w known u.1 o in
     or-right (nat_eq n x.rule && (list_any (λ y. same_var y x) r.exports && declares r.vars x k)) (exported_from (n + 1) rs x k) more
 
 -- ---- a sound declaration
@@ -160,7 +161,7 @@ module _ (vs : List Variable) (hs : List RuleHead) (rs : List Rule) (under : Und
   places-sound [] a o = refl
   places-sound (y ∷ ys) a o =
       both-true (exported_from 0 rs y Position) (list_all (λ y. exported_from 0 rs y Position) ys)
-      (home-exported vs 0 hs rs y Position a.0 under o.0) (places-sound ys a.1 o.1)
+      (home-exported vs 0 hs rs y Position o.0.0 a.0 under o.0.1) (places-sound ys a.1 o.1)
 
   decl-sound : (number : length hs ≡ length rs) (d : VarDecl) → AllKnown vs (taken_by d) → GoodDecl hs d → is_sound_decl rs d ≡ true
   decl-sound number d a g = by d.inherited refl a
@@ -169,7 +170,7 @@ module _ (vs : List Variable) (hs : List RuleHead) (rs : List Rule) (under : Und
           → (cond b (exported_from 0 rs d.var d.kind) (nat_eq d.var.rule (length rs)) && list_all (λ y. exported_from 0 rs y Position) d.not_places) ≡ true
       by true i a =
           both-true (exported_from 0 rs d.var d.kind) (list_all (λ y. exported_from 0 rs y Position) d.not_places)
-          (home-exported vs 0 hs rs d.var d.kind a.0 under (g.inherits i))
+          (home-exported vs 0 hs rs d.var d.kind d.wanted a.0 under (g.inherits i))
           (places-sound d.not_places a.1 g.places)
       by false i a =
           both-true (nat_eq d.var.rule (length rs)) (list_all (λ y. exported_from 0 rs y Position) d.not_places)

@@ -1,4 +1,4 @@
--- What items of declarations must not be.
+-- What items of declarations must not be, and what their variables take.
 use Rattle.std.proofs.Common.{◌≡◌, ℕ, inl, inr, slice_get, Bool, true, false, refl, sym, ap, subst, List, [], ◌∷◌, ◌++◌}
 use Rattle.std.proofs.Common.{Option, Some, None, if◌then◌else◌, drop, codes, option_map}
 use Rattle.std.specs.Prelude.{option_and_then, eqb}
@@ -7,9 +7,10 @@ use Rattle.smpl_patch.specs.declared.wanted.NameWanted.{NameWanted}
 use Rattle.smpl_patch.specs.declared.wanted.Wanted.{Wanted}
 use Rattle.c_terms.specs.declared.token.MetaKind.{MetaKind}
 use Rattle.c_terms.specs.declared.token.MetaKind.TheVariants as meta
-use Rattle.smpl_patch.specs.Wants.{anything}
+use Rattle.smpl_patch.specs.Wants.{anything, is_anything}
 use Rattle.smpl_patch.specs.declared.pattern.VarKind.{VarKind}
 use Rattle.smpl_patch.specs.declared.pattern.VarKind.TheVariants.{Meta, Position}
+use Rattle.smpl_patch.specs.Sound.{same_kind}
 use Rattle.smpl_lexer.specs.declared.token.PatchToken.{PatchToken}
 use Rattle.smpl_lexer.specs.Tokens.{is_sign}
 use Rattle.smpl_meta.specs.declared.item.Item.{Item}
@@ -24,7 +25,8 @@ use Rattle.smpl_meta.specs.Typed.{with_name, declarators}
 use Rattle.smpl_meta.specs.Declarations.{IsDeclared, AreDeclared, items_or_none}
 use Rattle.smpl_meta.specs.Decls.{items_of}
 use Rattle.smpl_meta.proofs.TypedItems.{wanted_item, Sources, declares}
-use Rattle.sound_laws.proofs.SmplSound.HomeLemmas.{AllPlain, FitNots, AllFit}
+use Rattle.sound_laws.proofs.SmplSound.BoolLemmas.{or-right}
+use Rattle.sound_laws.proofs.SmplSound.HomeLemmas.{AllPlain, FitNots, FitWanted, Fit, AllFit}
 
 -- ---- what is made of an option
 
@@ -96,56 +98,78 @@ nots-fit (Meta k) ts ns e = nots-plain k ts ns e
 -- ---- items
 
 abbrev Fits : Item → Type 0
-Fits i = FitNots i.kind i.nots
+Fits i = Fit i.kind i.nots i.wanted
 
-excepted-fits : (k : DeclKind) (ts : List PatchToken) (x : Named) (i : Item) → excepted_of k ts x ≡ Some i → Fits i
+-- it fits, and is of the kind
+abbrev FitsAs : DeclKind → Item → Type 0
+FitsAs k i = (i.kind ≡ k) × Fit k i.nots i.wanted
+
+as-fits : (k : DeclKind) (i : Item) → FitsAs k i → Fits i
+as-fits k i f = subst (λ (j : DeclKind). Fit j i.nots i.wanted) (sym f.0) f.1
+
+-- every expression may be wanted of a variable of any kind
+any-fits : (k : DeclKind) → FitWanted k anything
+any-fits Symbol = tt
+any-fits (Var k) = refl
+
+-- anything may be wanted of an expression
+expression-takes : (w : Wanted) → FitWanted (Var (Meta meta.Expr)) w
+expression-takes w = or-right (is_anything w) (same_kind (Meta meta.Expr) (Meta meta.Expr)) refl
+
+excepted-fits : (k : DeclKind) (ts : List PatchToken) (x : Named) (i : Item) → excepted_of k ts x ≡ Some i → FitsAs k i
 excepted-fits Symbol ts x i e = absurd (cc)
 excepted-fits (Var k) ts x i e =
     let m = map-made (λ nots. record { kind = Var k; named = x; nots = nots; wanted = anything }) (nots_of k ts) i e in
     let same : record { kind = Var k; named = x; nots = m.from; wanted = anything } ≡ i = let g = m.gives in cc in
-    subst Fits same (nots-fit k ts m.from m.is)
+    subst (FitsAs (Var k)) same (refl, (nots-fit k ts m.from m.is, refl))
 
 none-fit : (k : DeclKind) → FitNots k []
 none-fit Symbol = tt
 none-fit (Var Position) = tt
 none-fit (Var (Meta k)) = tt
 
-bare-fits : (k : DeclKind) (ts : List PatchToken) (i : Item) → option_map (bare_item k) (named_of ts) ≡ Some i → Fits i
+bare-fits : (k : DeclKind) (ts : List PatchToken) (i : Item) → option_map (bare_item k) (named_of ts) ≡ Some i → FitsAs k i
 bare-fits k ts i e =
     let m = map-made (bare_item k) (named_of ts) i e in
     let same : bare_item k m.from ≡ i = let g = m.gives in cc in
-    subst Fits same (none-fit k)
+    subst (FitsAs k) same (refl, (none-fit k, any-fits k))
 
 plain-fits-by : (k : DeclKind) (x y : PatchToken) (ts : List PatchToken) (i : Item) (b : Bool)
-    → (if b then option_and_then (excepted_of k ts) (plain_of x) else option_map (bare_item k) (named_of (x ∷ y ∷ ts))) ≡ Some i → Fits i
+    → (if b then option_and_then (excepted_of k ts) (plain_of x) else option_map (bare_item k) (named_of (x ∷ y ∷ ts))) ≡ Some i → FitsAs k i
 plain-fits-by k x y ts i true e = let m = then-made (excepted_of k ts) (plain_of x) i e in excepted-fits k ts m.from i m.gives
 plain-fits-by k x y ts i false e = bare-fits k (x ∷ y ∷ ts) i e
 
-plain-fits : (k : DeclKind) (ts : List PatchToken) (i : Item) → plain_item k ts ≡ Some i → Fits i
-plain-fits k [] i e = bare-fits k [] i e
-plain-fits k (x ∷ []) i e = bare-fits k (x ∷ []) i e
-plain-fits k (x ∷ y ∷ ts) i e = plain-fits-by k x y ts i (is_sign (codes "!=") y) e
+plain-as : (k : DeclKind) (ts : List PatchToken) (i : Item) → plain_item k ts ≡ Some i → FitsAs k i
+plain-as k [] i e = bare-fits k [] i e
+plain-as k (x ∷ []) i e = bare-fits k (x ∷ []) i e
+plain-as k (x ∷ y ∷ ts) i e = plain-fits-by k x y ts i (is_sign (codes "!=") y) e
 
-pointer-fits : (n : ℕ) (ts : List PatchToken) (i : Item) → pointer_item n ts ≡ Some i → Fits i
+plain-fits : (k : DeclKind) (ts : List PatchToken) (i : Item) → plain_item k ts ≡ Some i → Fits i
+plain-fits k ts i e = as-fits k i (plain-as k ts i e)
+
+abbrev Expression : Item → Type 0
+Expression = FitsAs (Var (Meta meta.Expr))
+
+pointer-fits : (n : ℕ) (ts : List PatchToken) (i : Item) → pointer_item n ts ≡ Some i → Expression i
 pointer-fits n [] i e = absurd (cc)
 pointer-fits n (x ∷ []) i e =
     let m = map-made (pointer_to n) (plain_of x) i e in
     let same : pointer_to n m.from ≡ i = let g = m.gives in cc in
-    subst Fits same tt
+    subst Expression same (refl, (tt, expression-takes (pointer_to n m.from).wanted))
 pointer-fits n (x ∷ y ∷ ts) i e = absurd (cc)
 
 expression-fits-by : (ts : List PatchToken) (i : Item) (b : Bool)
-    → (if b then plain_item (Var (Meta meta.Expr)) ts else pointer_item (count_stars ts) (drop (count_stars ts) ts)) ≡ Some i → Fits i
-expression-fits-by ts i true e = plain-fits (Var (Meta meta.Expr)) ts i e
+    → (if b then plain_item (Var (Meta meta.Expr)) ts else pointer_item (count_stars ts) (drop (count_stars ts) ts)) ≡ Some i → Expression i
+expression-fits-by ts i true e = plain-as (Var (Meta meta.Expr)) ts i e
 expression-fits-by ts i false e = pointer-fits (count_stars ts) (drop (count_stars ts) ts) i e
 
-expression-fits : (ts : List PatchToken) (i : Item) → expression_item ts ≡ Some i → Fits i
+expression-fits : (ts : List PatchToken) (i : Item) → expression_item ts ≡ Some i → Expression i
 expression-fits ts i e = expression-fits-by ts i (eqb (count_stars ts) 0) e
 
 item-fits : (k : DeclKind) (ts : List PatchToken) (i : Item) → item_of k ts ≡ Some i → Fits i
 item-fits Symbol ts i e = plain-fits Symbol ts i e
 item-fits (Var Position) ts i e = plain-fits (Var Position) ts i e
-item-fits (Var (Meta meta.Expr)) ts i e = expression-fits ts i e
+item-fits (Var (Meta meta.Expr)) ts i e = as-fits (Var (Meta meta.Expr)) i (expression-fits ts i e)
 item-fits (Var (Meta meta.Ident)) ts i e = plain-fits (Var (Meta meta.Ident)) ts i e
 item-fits (Var (Meta meta.Constant)) ts i e = plain-fits (Var (Meta meta.Constant)) ts i e
 item-fits (Var (Meta meta.Typ)) ts i e = plain-fits (Var (Meta meta.Typ)) ts i e
@@ -180,10 +204,12 @@ FitsAny ts i = Fits i
 
 typed-fits : (ts : List PatchToken) (k : ℕ) (t : PatchToken) (x : Named) (w : Wanted)
     → slice_get ts k ≡ Some t → plain_of t ≡ Some x → FitsAny ts (wanted_item w x)
-typed-fits ts k t x w e f = tt
+typed-fits ts k t x w e f = (tt, expression-takes w)
 
 untyped-fits : (ts : List PatchToken) (name : NameWanted) (i : Item) → expression_item ts ≡ Some i → FitsAny ts (with_name name i)
-untyped-fits ts wanted i e = expression-fits ts i e
+untyped-fits ts name i e =
+    let f = expression-fits ts i e in
+    as-fits (Var (Meta meta.Expr)) (with_name name i) (f.0, (f.1.0, expression-takes (with_name name i).wanted))
 
 zip-fit : (ds : List (List PatchToken)) (is : List Item) → AllZip FitsAny ds is → AllFit is
 zip-fit [] [] a = tt
@@ -203,7 +229,7 @@ fit-append : (xs ys : List Item) → AllFit xs → AllFit ys → AllFit (xs ++ y
 fit-append [] ys a b = b
 fit-append (x ∷ xs) ys a b = (a.0, fit-append xs ys a.1 b)
 
--- the items of declarations exclude rules' names only at positions
+-- the items of declarations exclude rules' names only at positions, and only expressions have to be more than that
 pub items-fitting : (types : List (List ℕ)) (ps : List (List PatchToken)) (answers : List (Option (List Item))) → AreDeclared types ps answers
     → AllFit (items_of answers)
 items-fitting types [] [] a = tt

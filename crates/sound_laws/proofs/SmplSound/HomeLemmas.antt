@@ -1,5 +1,5 @@
--- A variable that a rule declares as inherited, or excludes, is declared by an earlier rule as its own.
-use Rattle.std.proofs.Common.{◌≡◌, ℕ, suc, ◌+◌, Bool, true, false, refl, sym, ap, ◌∙◌, subst, true≢false, List, [], ◌∷◌, ◌++◌}
+-- A variable that a rule declares as inherited, or excludes, is declared by an earlier rule as its own, and takes the same there.
+use Rattle.std.proofs.Common.{◌≡◌, ℕ, Bool, true, false, refl, sym, ap, ◌∙◌, subst, true≢false, List, [], ◌∷◌, ◌++◌}
 use Rattle.std.proofs.Common.{append_assoc, length, Option, Some, None, if◌then◌else◌, arith, ◌⊎◌, inl, inr}
 use Rattle.std.specs.Str.{bytes_eq}
 use Rattle.std.proofs.lemmas.Bool.Decides.{nat_tests}
@@ -7,6 +7,7 @@ use Rattle.smpl_terms.specs.declared.var.Var.{Var as Variable}
 use Rattle.smpl_patch.specs.declared.pattern.VarDecl.{VarDecl}
 use Rattle.smpl_patch.specs.declared.pattern.VarKind.{VarKind}
 use Rattle.smpl_patch.specs.declared.pattern.VarKind.TheVariants.{Meta, Position}
+use Rattle.smpl_patch.specs.declared.wanted.Wanted.{Wanted}
 use Rattle.smpl_patch.specs.declared.fault.PatchFault.{PatchFault}
 use Rattle.smpl_patch.specs.declared.fault.PatchFault.TheVariants.{KindDiffers}
 use Rattle.smpl_lexer.specs.declared.token.PatchToken.{PatchToken}
@@ -20,71 +21,24 @@ use Rattle.smpl_meta.specs.Decls.{is_kind, from_word, word_fault, found_fault, f
 use Rattle.smpl_meta.specs.Decls.{nots_faults, item_faults, items_faults, var_in, place_not, places_not, inherited_from, var_by}
 use Rattle.smpl_meta.specs.Decls.{vars_in, vars_of_items}
 use Rattle.sound_laws.proofs.SmplSound.NameLemmas.{front-nil, back-nil, found-in, item-rest}
-
--- ---- where a variable is a rule's own
-
-abbrev pub Is : Variable → VarKind → VarDecl → Type 0
-Is x k d = (d.var ≡ x) × ((d.inherited ≡ false) × (kind_number d.kind ≡ kind_number k))
-
--- one of the declarations is the variable's own
-abbrev pub OwnIn : List VarDecl → Variable → VarKind → Type 0
-OwnIn [] x k = ⊥
-OwnIn (d ∷ ds) x k = Is x k d ⊎ OwnIn ds x k
-
--- the rule of the variable's number has it as its own; the first of the rules has the number n
-abbrev pub Home : ℕ → List RuleHead → Variable → VarKind → Type 0
-Home n [] x k = ⊥
-Home n (h ∷ hs) x k = ((n ≡ x.rule) × OwnIn h.vars x k) ⊎ Home (suc n) hs x k
-
-abbrev pub HomeAll : List RuleHead → List Variable → Type 0
-HomeAll earlier [] = Unit {0}
-HomeAll earlier (y ∷ ys) = Home 0 earlier y Position × HomeAll earlier ys
-
-pub record GoodDecl (earlier : List RuleHead) (d : VarDecl) : Type 0 where
-  pub owned : d.inherited ≡ false → d.var.rule ≡ length earlier
-  pub inherits : d.inherited ≡ true → Home 0 earlier d.var d.kind
-  pub places : HomeAll earlier d.not_places
-
-abbrev pub GoodDecls : List RuleHead → List VarDecl → Type 0
-GoodDecls earlier [] = Unit {0}
-GoodDecls earlier (d ∷ ds) = GoodDecl earlier d × GoodDecls earlier ds
-
-abbrev pub GoodHeads : List RuleHead → List RuleHead → Type 0
-GoodHeads earlier [] = Unit {0}
-GoodHeads earlier (h ∷ hs) = GoodDecls earlier h.vars × GoodHeads (earlier ++ h ∷ []) hs
-
--- ---- more rules, and another name of the kind
-
-own-kind : (ds : List VarDecl) (x : Variable) (k j : VarKind) → kind_number k ≡ kind_number j → OwnIn ds x k → OwnIn ds x j
-own-kind [] x k j e o = o
-own-kind (d ∷ ds) x k j e (inl is) = inl (is.0, (is.1.0, is.1.1 ∙ e))
-own-kind (d ∷ ds) x k j e (inr o) = inr (own-kind ds x k j e o)
-
-pub home-kind : (n : ℕ) (hs : List RuleHead) (x : Variable) (k j : VarKind) → kind_number k ≡ kind_number j → Home n hs x k → Home n hs x j
-home-kind n [] x k j e o = o
-home-kind n (h ∷ hs) x k j e (inl is) = inl (is.0, own-kind h.vars x k j e is.1)
-home-kind n (h ∷ hs) x k j e (inr o) = inr (home-kind (suc n) hs x k j e o)
-
-pub home-front : (n : ℕ) (hs more : List RuleHead) (x : Variable) (k : VarKind) → Home n hs x k → Home n (hs ++ more) x k
-home-front n [] more x k o = absurd o
-home-front n (h ∷ hs) more x k (inl is) = inl is
-home-front n (h ∷ hs) more x k (inr o) = inr (home-front (suc n) hs more x k o)
-
-home-here : (n : ℕ) (hs more : List RuleHead) (h : RuleHead) (x : Variable) (k : VarKind) → x.rule ≡ n + length hs
-    → OwnIn h.vars x k → Home n (hs ++ h ∷ more) x k
-home-here n [] more h x k e o = let s : n ≡ x.rule = omega (arith, e) in inl (s, o)
-home-here n (g ∷ hs) more h x k e o = inr (home-here (suc n) hs more h x k (omega (arith, e)) o)
+use Rattle.sound_laws.proofs.SmplSound.OwnLemmas.{Is, OwnIn, Home, HomeAll, takes, GoodDecl, GoodDecls, GoodHeads, takes-kind, home-kind}
+use Rattle.sound_laws.proofs.SmplSound.OwnLemmas.{home-front, home-here}
 
 -- ---- a variable that is found
 
 -- among declarations, the one that is found
 own-found-by : (x : List ℕ) (d f : VarDecl) (ds : List VarDecl) (b : Bool) → (if b then Some d else var_named x ds) ≡ Some f → f.inherited ≡ false
-    → (var_named x ds ≡ Some f → OwnIn ds f.var f.kind) → Is f.var f.kind d ⊎ OwnIn ds f.var f.kind
+    → (var_named x ds ≡ Some f → OwnIn ds f.var f.kind f.wanted) → Is f.var f.kind f.wanted d ⊎ OwnIn ds f.var f.kind f.wanted
 own-found-by x d f ds true e h more = let same : d ≡ f = cc in
-    inl (ap (λ (y : VarDecl). y.var) same, (ap (λ (y : VarDecl). y.inherited) same ∙ h, ap (λ (y : VarDecl). kind_number y.kind) same))
+    inl (
+      ap (λ (y : VarDecl). y.var) same,
+      ap (λ (y : VarDecl). y.inherited) same ∙ h,
+      ap (λ (y : VarDecl). kind_number y.kind) same,
+      ap (λ (y : VarDecl). y.wanted) same,
+    )
 own-found-by x d f ds false e h more = inr (more e)
 
-own-found : (x : List ℕ) (ds : List VarDecl) (f : VarDecl) → var_named x ds ≡ Some f → f.inherited ≡ false → OwnIn ds f.var f.kind
+own-found : (x : List ℕ) (ds : List VarDecl) (f : VarDecl) → var_named x ds ≡ Some f → f.inherited ≡ false → OwnIn ds f.var f.kind f.wanted
 own-found x [] f e h = absurd (cc)
 own-found x (d ∷ ds) f e h = own-found-by x d f ds (bytes_eq d.var.name x) e h (λ r. own-found x ds f r h)
 
@@ -98,30 +52,34 @@ good-found : (earlier : List RuleHead) (x : List ℕ) (ds : List VarDecl) (f : V
 good-found earlier x [] f g e = absurd (cc)
 good-found earlier x (d ∷ ds) f g e = good-by earlier d f ds x (bytes_eq d.var.name x) g.0 e (good-found earlier x ds f g.1)
 
+-- the rule of the declaration's variable has it as its own, with what it takes
+abbrev pub HomeOf : List RuleHead → VarKind → VarDecl → Type 0
+HomeOf earlier k f = Home 0 earlier f.var k f.wanted × (takes k f.wanted ≡ true)
+
 home-in : (pre hs : List RuleHead) (h : RuleHead) (x : List ℕ) (f : VarDecl) → GoodDecls pre h.vars
-    → var_named x h.vars ≡ Some f → Home 0 (pre ++ h ∷ hs) f.var f.kind
-home-in pre hs h x f g e = by f.inherited refl
+    → var_named x h.vars ≡ Some f → HomeOf (pre ++ h ∷ hs) f.kind f
+home-in pre hs h x f g e = (by f.inherited refl, good.wants)
   where
     good : GoodDecl pre f
     good = good-found pre x h.vars f g e
 
-    by : (b : Bool) → f.inherited ≡ b → Home 0 (pre ++ h ∷ hs) f.var f.kind
-    by true i = home-front 0 pre (h ∷ hs) f.var f.kind (good.inherits i)
-    by false i = let r = good.owned i in home-here 0 pre hs h f.var f.kind (omega (arith, r)) (own-found x h.vars f e i)
+    by : (b : Bool) → f.inherited ≡ b → Home 0 (pre ++ h ∷ hs) f.var f.kind f.wanted
+    by true i = home-front 0 pre (h ∷ hs) f.var f.kind f.wanted (good.inherits i)
+    by false i = let r = good.owned i in home-here 0 pre hs h f.var f.kind f.wanted (omega (arith, r)) (own-found x h.vars f e i)
 
 home-named : (pre hs : List RuleHead) (r x : List ℕ) (g : RuleHead) (f : VarDecl) → GoodHeads pre hs → head_named r hs ≡ Some g
-    → var_named x g.vars ≡ Some f → Home 0 (pre ++ hs) f.var f.kind
+    → var_named x g.vars ≡ Some f → HomeOf (pre ++ hs) f.kind f
 home-named pre [] r x g f good e v = absurd (cc)
 home-named pre (h ∷ hs) r x g f good e v = by (bytes_eq h.name r) e (λ rest. home-named (pre ++ h ∷ []) hs r x g f good.1 rest v)
   where
-    by : (b : Bool) → (if b then Some h else head_named r hs) ≡ Some g → (head_named r hs ≡ Some g → Home 0 ((pre ++ h ∷ []) ++ hs) f.var f.kind)
-        → Home 0 (pre ++ h ∷ hs) f.var f.kind
+    by : (b : Bool) → (if b then Some h else head_named r hs) ≡ Some g → (head_named r hs ≡ Some g → HomeOf ((pre ++ h ∷ []) ++ hs) f.kind f)
+        → HomeOf (pre ++ h ∷ hs) f.kind f
     by true e more =
         let same : h ≡ g = cc in
         home-in pre hs h x f good.0 (ap (λ (y : RuleHead). var_named x y.vars) same ∙ v)
-    by false e more = subst (λ (l : List RuleHead). Home 0 l f.var f.kind) (append_assoc pre (h ∷ []) hs) (more e)
+    by false e more = subst (λ (l : List RuleHead). HomeOf l f.kind f) (append_assoc pre (h ∷ []) hs) (more e)
 
-pub home-of : (earlier : List RuleHead) (r x : List ℕ) (f : VarDecl) → GoodHeads [] earlier → var_of earlier r x ≡ Some f → Home 0 earlier f.var f.kind
+pub home-of : (earlier : List RuleHead) (r x : List ℕ) (f : VarDecl) → GoodHeads [] earlier → var_of earlier r x ≡ Some f → HomeOf earlier f.kind f
 home-of earlier r x f good e = let q = found-in earlier r x f e in home-named [] earlier r x q.head f good q.named q.declared
 
 -- ---- items
@@ -135,9 +93,16 @@ abbrev pub FitNots : DeclKind → List Named → Type 0
 FitNots (Var (Meta k)) ns = AllPlain ns
 FitNots _ ns = Unit {0}
 
+abbrev pub FitWanted : DeclKind → Wanted → Type 0
+FitWanted Symbol w = Unit {0}
+FitWanted (Var k) w = takes k w ≡ true
+
+abbrev pub Fit : DeclKind → List Named → Wanted → Type 0
+Fit k ns w = FitNots k ns × FitWanted k w
+
 abbrev pub AllFit : List Item → Type 0
 AllFit [] = Unit {0}
-AllFit (i ∷ is) = FitNots i.kind i.nots × AllFit is
+AllFit (i ∷ is) = Fit i.kind i.nots i.wanted × AllFit is
 
 kind-by : (b : Bool) (fs : List PatchFault) (f : PatchFault) → (if b then [] else f ∷ fs) ≡ [] → b ≡ true
 kind-by true fs f e = refl
@@ -156,12 +121,13 @@ module _ (earlier : List RuleHead) (good : GoodHeads [] earlier) (rule : ℕ) (n
       by false e = absurd (cc)
 
   found-home : (k : VarKind) (r : PatchToken) (x : List ℕ) (o : Option VarDecl) → var_of earlier r.token.text x ≡ o → found_fault (Var k) r o ≡ []
-      → (d : VarDecl) → o ≡ Some d → Home 0 earlier d.var k
+      → (d : VarDecl) → o ≡ Some d → HomeOf earlier k d
   found-home k r x None h e d s = absurd (cc)
   found-home k r x (Some f) h e d s =
       let same : f ≡ d = cc in
-      let there : Home 0 earlier f.var k = home-kind 0 earlier f.var f.kind k (kind-found k r f e) (home-of earlier r.token.text x f good h) in
-      subst (λ (y : VarDecl). Home 0 earlier y.var k) same there
+      let kind = kind-found k r f e in
+      let there = home-of earlier r.token.text x f good h in
+      subst (HomeOf earlier k) same (home-kind 0 earlier f.var f.kind k f.wanted kind there.0, takes-kind f.kind k f.wanted kind there.1)
 
   -- ---- excluded positions
 
@@ -184,7 +150,7 @@ module _ (earlier : List RuleHead) (good : GoodHeads [] earlier) (rule : ℕ) (n
     where
       by : (o : Option VarDecl) → var_of earlier r.token.text n.name.token.text ≡ o → found_fault (Var Position) r o ≡ [] → HomeAll earlier (var_in o)
       by None h e = tt
-      by (Some d) h e = (found-home Position r n.name.token.text (Some d) h e d refl, tt)
+      by (Some d) h e = ((d.wanted, (found-home Position r n.name.token.text (Some d) h e d refl).0), tt)
 
   places-home : (ns : List Named) → nots_faults earlier (Var Position) ns ≡ [] → HomeAll earlier (places_not earlier ns)
   places-home [] e = tt
@@ -206,15 +172,17 @@ module _ (earlier : List RuleHead) (good : GoodHeads [] earlier) (rule : ℕ) (n
       → GoodDecls earlier (inherited_from k o)
   inherited-good k r x None h e = tt
   inherited-good k r x (Some d) h e =
-      (record { owned = λ f. absurd (true≢false f); inherits = λ t. found-home k r x (Some d) h e d refl; places = tt }, tt)
+      let there = found-home k r x (Some d) h e d refl in
+      (record { owned = λ f. absurd (true≢false f); inherits = λ t. there.0; places = tt; wants = there.1 }, tt)
 
-  by-good : (k : VarKind) (i : Item) (f : Option PatchToken) → FitNots (Var k) i.nots
+  by-good : (k : VarKind) (i : Item) (f : Option PatchToken) → Fit (Var k) i.nots i.wanted
       → from_fault earlier (Var k) f i.named.name ≡ [] → nots_faults earlier (Var k) i.nots ≡ []
       → GoodDecls earlier (var_by earlier rule k f i)
-  by-good k i None fit e es = (record { owned = λ f. number; inherits = λ t. absurd (true≢false (sym t)); places = nots-home k i.nots fit es }, tt)
+  by-good k i None fit e es =
+      (record { owned = λ f. number; inherits = λ t. absurd (true≢false (sym t)); places = nots-home k i.nots fit.0 es; wants = fit.1 }, tt)
   by-good k i (Some r) fit e es = inherited-good k r i.named.name.token.text (var_of earlier r.token.text i.named.name.token.text) refl e
 
-  in-good : (k : DeclKind) (i : Item) → FitNots k i.nots → NothingWrong k i → GoodDecls earlier (vars_in earlier rule k i)
+  in-good : (k : DeclKind) (i : Item) → Fit k i.nots i.wanted → NothingWrong k i → GoodDecls earlier (vars_in earlier rule k i)
   in-good Symbol i fit e = tt
   in-good (Var k) i fit e = by-good k i i.named.from fit (from-nil (Var k) i.named e.0) e.1
 

@@ -12,7 +12,7 @@ use Rattle.smpl_patch.specs.declared.pattern.PatToken.{PatToken}
 use Rattle.smpl_patch.specs.declared.rule.Dep.{Dep}
 use Rattle.smpl_patch.specs.declared.rule.Rule.{Rule}
 use Rattle.smpl_patch.specs.declared.rule.Patch.{Patch}
-use Rattle.smpl_patch.specs.Sound.{declares, none_alike, is_own_var, is_sound_decl, is_below}
+use Rattle.smpl_patch.specs.Sound.{declares, none_alike, is_own_var, is_sound_decl, is_sound_wanted, is_below}
 use Rattle.smpl_lexer.specs.declared.token.PatchToken.{PatchToken}
 use Rattle.smpl_lexer.specs.declared.text.BodyLine.{BodyLine}
 use Rattle.smpl_lexer.specs.declared.text.RuleText.{RuleText}
@@ -31,12 +31,14 @@ use Rattle.smpl_file.specs.Exports.{taken_by_all, taken, exports_of}
 use Rattle.smpl_file.specs.Patches.{IsRule, AreRules, IsSpelled}
 use Rattle.sound_laws.specs.SmplSound.Parts.{EachPasses, leads_token}
 use Rattle.sound_laws.proofs.SmplSound.NameLemmas.{back-nil, names-differ}
-use Rattle.sound_laws.proofs.SmplSound.HomeLemmas.{GoodDecls, GoodHeads, items-good}
+use Rattle.sound_laws.proofs.SmplSound.OwnLemmas.{GoodDecls, GoodHeads}
+use Rattle.sound_laws.proofs.SmplSound.HomeLemmas.{items-good}
 use Rattle.sound_laws.proofs.SmplSound.FormLemmas.{items-fitting}
 use Rattle.sound_laws.proofs.SmplSound.DependLemmas.{depends-below}
 use Rattle.sound_laws.proofs.SmplSound.LeadLemmas.{anchored-lead}
 use Rattle.sound_laws.proofs.SmplSound.PositionLemmas.{positions-declared}
 use Rattle.sound_laws.proofs.SmplSound.ExportLemmas.{Under, AllKnown, exports-own, known-front, known-back, known-self, decls-sound}
+use Rattle.sound_laws.proofs.SmplSound.WantLemmas.{decls-wanted}
 
 -- ---- one rule
 
@@ -48,6 +50,9 @@ exports_are_own earlier r = list_all (is_own_var r.vars) r.exports
 
 abbrev pub vars_are_sound : List Rule → Rule → Bool
 vars_are_sound earlier r = list_all (is_sound_decl earlier) r.vars
+
+abbrev pub wants_are_sound : List Rule → Rule → Bool
+wants_are_sound earlier r = list_all (is_sound_wanted earlier) r.vars
 
 abbrev pub positions_are_declared : List Rule → Rule → Bool
 positions_are_declared earlier r = list_all (λ (t : PatToken). list_all (λ x. declares r.vars x Position) t.positions) r.tokens
@@ -115,6 +120,9 @@ module _ (virtuals : List (List ℕ)) (known : List Variable) (heads : List Rule
   rule-vars a = ap (list_all (is_sound_decl rules)) made.vars
       ∙ decls-sound known heads rules ahead.under (same-length known heads rules ahead.under) h.vars a decls-good
 
+  rule-wanted : wants_are_sound rules x ≡ true
+  rule-wanted = ap (list_all (is_sound_wanted rules)) made.vars ∙ decls-wanted known heads rules ahead.under h.vars decls-good
+
   rule-depends : ((d : Dep) × DependsOn heads (depends_tokens r.header) d) → depends_are_earlier rules x ≡ true
   rule-depends c =
       let count = same-length known heads rules ahead.under in
@@ -130,6 +138,7 @@ pub record Passes (earlier rules : List Rule) : Type 0 where
   pub names : EachPasses names_differ earlier rules
   pub exports : EachPasses exports_are_own earlier rules
   pub vars : EachPasses vars_are_sound earlier rules
+  pub wanted : EachPasses wants_are_sound earlier rules
   pub depends : EachPasses depends_are_earlier earlier rules
 
 abbrev pub HaveConditions : Type 0
@@ -138,7 +147,7 @@ HaveConditions = (earlier : List RuleHead) (ts : List PatchToken) (end : ℕ) �
 passed : HaveConditions → (text : PatchText) (known : List Variable) (n : ℕ) (heads : List RuleHead) (rules : List Rule)
     (ts : List RuleText) (hs : List RuleHead) (xs : List Rule)
     → Ahead known heads rules → AllGoOn ts → AreHeads text heads ts hs → AreRules known n ts hs xs → AllKnown known (taken hs) → Passes rules xs
-passed c text known n heads rules [] [] [] a go are made k = record { names = tt; exports = tt; vars = tt; depends = tt }
+passed c text known n heads rules [] [] [] a go are made k = record { names = tt; exports = tt; vars = tt; wanted = tt; depends = tt }
 passed c text known n heads rules [] [] (x ∷ xs) a go are made k = absurd made
 passed c text known n heads rules [] (h ∷ hs) xs a go are made k = absurd are
 passed c text known n heads rules (t ∷ ts) [] xs a go are made k = absurd are
@@ -152,6 +161,7 @@ passed c text known n heads rules (t ∷ ts) (h ∷ hs) (x ∷ xs) a go are made
       names = (rule-names text.virtuals known heads rules a t h are.0 x n made.0, rest.names);
       exports = (rule-exports text.virtuals known heads rules a t h are.0 x n made.0, rest.exports);
       vars = (rule-vars text.virtuals known heads rules a t h are.0 x n made.0 front, rest.vars);
+      wanted = (rule-wanted text.virtuals known heads rules a t h are.0 x n made.0, rest.wanted);
       depends = (rule-depends text.virtuals known heads rules a t h are.0 x n made.0 (c heads t.header go.0.0 go.0.1), rest.depends);
     }
 

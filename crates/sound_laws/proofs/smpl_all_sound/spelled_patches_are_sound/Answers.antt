@@ -9,6 +9,7 @@ returns c = record {
         names = e.names bytes patch s;
         exports = e.exports bytes patch s;
         vars = e.vars bytes patch s;
+        wanted = e.wanted bytes patch s;
         depends = e.depends bytes patch s;
         atoms = e.atoms bytes patch s;
         patterns = e.patterns bytes patch s;

@@ -15,6 +15,9 @@ returns-clause-exports c bytes patch s = (patch-passes c.headers_have_conditions
 pub returns-clause-vars : goal.returns-clause-vars
 returns-clause-vars c bytes patch s = (patch-passes c.headers_have_conditions.ensures.some c.patch_is_read_once.ensures.headers bytes patch s).vars
 
+pub returns-clause-wanted : goal.returns-clause-wanted
+returns-clause-wanted c bytes patch s = (patch-passes c.headers_have_conditions.ensures.some c.patch_is_read_once.ensures.headers bytes patch s).wanted
+
 pub returns-clause-depends : goal.returns-clause-depends
 returns-clause-depends c bytes patch s = (patch-passes c.headers_have_conditions.ensures.some c.patch_is_read_once.ensures.headers bytes patch s).depends
 

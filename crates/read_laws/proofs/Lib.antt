@@ -1,3 +1,4 @@
 pub mod SmplOnce
 pub mod IsoOnce
 pub mod ReadEnds
+pub mod TypedOnce

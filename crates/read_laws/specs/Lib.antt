@@ -1,2 +1,3 @@
--- What read_ends defines.
+-- What read_ends and typed_once define.
 pub mod ReadEnds
+pub mod TypedOnce

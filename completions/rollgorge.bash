@@ -4,6 +4,7 @@ _rollgorge() {
   COMPREPLY=()
   case ${COMP_WORDS[COMP_CWORD - 1]} in
     --sp-file) COMPREPLY=($(compgen -f -X '!*.cocci' -- "$word") $(compgen -d -- "$word")); return ;;
+    --unread) COMPREPLY=(); return ;;
     --iso-file) COMPREPLY=($(compgen -f -X '!*.iso' -- "$word") $(compgen -d -- "$word")); return ;;
     --define) COMPREPLY=(); return ;;
     --jobs) COMPREPLY=(); return ;;
@@ -11,7 +12,7 @@ _rollgorge() {
     --functions) COMPREPLY=(); return ;;
   esac
   case $word in
-    -*) COMPREPLY=($(compgen -W '--sp-file --in-place --witnesses --check --quiet --iso-file --define --jobs --generate --functions --help --version' -- "$word")) ;;
+    -*) COMPREPLY=($(compgen -W '--sp-file --in-place --witnesses --check --quiet --unread --iso-file --define --jobs --generate --functions --help --version' -- "$word")) ;;
     *) COMPREPLY=($(compgen -f -X '!*.[ch]' -- "$word") $(compgen -d -- "$word")) ;;
   esac
 }

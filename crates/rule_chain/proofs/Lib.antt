@@ -4,6 +4,10 @@ pub mod StepLemmas
 pub mod CutLemmas
 pub mod OnceLemmas
 pub mod NoteLemmas
+pub mod WordLemmas
+pub mod StandLemmas
+pub mod PassLemmas
+pub mod AlikeLemmas
 pub mod RuleWitnesses
 pub mod RuleEdits
 pub mod FileWitnesses

@@ -1,8 +1,9 @@
--- The first token of an item that was loaded, token by token.
-use Rattle.std.proofs.Common.{◌≡◌, ◌∙◌, ◌<◌, ◌+◌, ◌-◌, ℕ, suc, true, false, refl, sym, ap, arith, add-one}
+-- The first token of an item that was loaded, and whether one is a word, token by token.
+use Rattle.std.proofs.Common.{◌≡◌, ◌∙◌, ◌<◌, ◌+◌, ◌-◌, ◌||◌, ℕ, suc, Bool, true, false, refl, sym, ap, arith, add-one}
 use Rattle.std.proofs.Common.{List, ◌∷◌, length, take, get_or, drop-cons, slice_range, Option, Some, None}
 use Rattle.std.specs.Prelude.{is_some, option_and_then, slice_get}
 use Rattle.std.specs.Option.{option_or}
+use Rattle.std.specs.List.{list_any}
 use Rattle.c_lexer.specs.Pieces.{TextPiece}
 use Rattle.rule_chain.specs.RuleRun.Notes.{loaded_id, first_loaded}
 
@@ -32,3 +33,17 @@ module _ (loaded : ℕ) (pieces : List TextPiece) (shown : List ℕ) (i last : �
 
   pub passed : is_some id ≡ false → first_loaded loaded pieces (slice_range shown (i + 1) last) ≡ first_loaded loaded pieces (slice_range shown i last)
   passed none = ap (λ n. first_loaded loaded pieces (slice_range shown n last)) (add-one i) ∙ sym (or_none id later none) ∙ sym at_first
+
+-- ---- a word, token by token
+
+module _ (test : ℕ → Bool) (shown : List ℕ) (i last : ℕ) (lt : i < last) (within : i < length shown) where
+  at_place : list_any test (slice_range shown i last) ≡ (test (get_or shown i 0) || list_any test (slice_range shown (suc i) last))
+  at_place = ap (list_any test) (range_cons shown i last lt within)
+
+  pub found_word : test (get_or shown i 0) ≡ true → list_any test (slice_range shown i last) ≡ true
+  found_word h = at_place ∙ ap (λ b. b || list_any test (slice_range shown (suc i) last)) h
+
+  pub passed_word : test (get_or shown i 0) ≡ false → list_any test (slice_range shown (i + 1) last) ≡ list_any test (slice_range shown i last)
+  passed_word h =
+      ap (λ n. list_any test (slice_range shown n last)) (add-one i)
+      ∙ sym (ap (λ b. b || list_any test (slice_range shown (suc i) last)) h) ∙ sym at_place

@@ -23,7 +23,7 @@ use Rattle.rule_chain.specs.RuleEdits.Faults.{AreFine, IsEditFault}
 use Rattle.rule_chain.specs.RuleEdits.Faults.IsEditFault.{conflict, too_long}
 use Rattle.rule_chain.specs.declared.rule_run.fault.FileFault.{FileFault}
 use Rattle.rule_chain.specs.RuleRun.Notes.{notes_on}
-use Rattle.rule_chain.specs.RuleRun.States.{Chained, ReadsAgain, first_state}
+use Rattle.rule_chain.specs.RuleRun.States.{Chained, ReadsAgain, first_state, needed_notes}
 use Rattle.rule_chain.specs.RuleRun.OneRule.{edit_fault, MayRead, AreFew, RuleEdits, IsFault, Leads, state_after, is_too_much, file_witnesses}
 use Rattle.rule_chain.specs.RuleRun.OneRule.IsFault.{too_many_witnesses, too_many_environments, in_edits}
 use Rattle.rule_chain.specs.Chain.{Outcome, Refused, Runs, Chain, is_followed}
@@ -135,6 +135,7 @@ module _ (one_cut : HaveOneCut) (one_reading : HaveOneReading) (one_shown : Have
         pieces = pieces i;
         items = items i;
         skipped = s.skipped ++ notes_on s.loaded (suc s.reading) (record { pieces = pieces i; shown = shown i; items = items i });
+        needed = record { shown = shown i; ran = []; earlier = needed_notes s };
       })
       ∙ sym two.is
 

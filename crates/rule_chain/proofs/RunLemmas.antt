@@ -1,8 +1,10 @@
 -- What one rule leads to, and what the rules after it lead to.
 use Rattle.std.proofs.Common.{◌≡◌, ◌<◌, ◌+◌, ℕ, Bool, false, ◌&&◌, Option, None, Some, refl, sym, ap, ◌∙◌, subst}
 use Rattle.std.proofs.Common.{inl, inr, zero, suc, arith, add-one}
-use Rattle.std.proofs.Common.{List, [], ◌∷◌, length, get_or, drop}
-use Rattle.std.specs.Prelude.{is_some, cond}
+use Rattle.std.proofs.Common.{List, [], ◌∷◌, ◌++◌, length, get_or, drop}
+use Rattle.std.specs.Prelude.{is_some, cond, not, slice_get}
+use Rattle.std.proofs.lemmas.List.{append-nil}
+use Rattle.std.proofs.lemmas.Option.{slice_get-get_or}
 use Rattle.std.specs.List.{AllZip}
 use Rattle.std.proofs.Math.Seq.{drop-cons}
 use Rattle.c_lexer.specs.Pieces.{TextPiece}
@@ -11,14 +13,17 @@ use Rattle.edit_marks.specs.declared.edit_conflict.edit.Edit.{Edit}
 use Rattle.edit_unparse.specs.Output.{output_of}
 use Rattle.smpl_patch.specs.declared.rule.Rule.{Rule}
 use Rattle.rule_chain.specs.declared.rule_edits.texts.NewText.{NewText}
-use Rattle.rule_chain.specs.RuleEdits.Pages.{Page, is_edited, old_page, page_of, page_after, IsNew}
+use Rattle.rule_chain.specs.RuleEdits.Pages.{Page, is_empty, is_edited, old_page, page_of, page_after, IsNew}
 use Rattle.rule_chain.specs.declared.rule_run.fault.FileFault.{FileFault}
 use Rattle.rule_chain.specs.declared.rule_run.state.FileState.{FileState}
+use Rattle.env_parts.specs.Parts.{Pairs}
+use Rattle.rule_chain.specs.RuleMatches.Matching.{rule_projections}
+use Rattle.rule_chain.specs.RuleRun.Needed.{NeededNotes, ran_after}
 use Rattle.rule_chain.specs.RuleRun.States.{Chained}
 use Rattle.rule_chain.specs.RuleRun.OneRule.{MayRead, IsFault, Leads, state_after}
 use Rattle.rule_chain.specs.RuleRun.Outcomes.{IsAtReading, IsOutcome}
 use Rattle.rule_chain.specs.Chain.{Refused, Runs, is_followed}
-use Rattle.rule_chain.specs.Stops.{page_left, LeadsOn}
+use Rattle.rule_chain.specs.Stops.{page_left, AreNumbered, ran_number, LeadsOn}
 
 pub left_of : {A : Type 0} (xs : List A) (i : ℕ) (x : A) → i < length xs → x ≡ get_or xs i x → drop i xs ≡ x ∷ drop (i + 1) xs
 left_of xs i x lt is = rw add-one (drop-cons xs i x lt ∙ ap (λ z. z ∷ drop (suc i) xs) (sym is))
@@ -55,34 +60,55 @@ edited_is : (next : ℕ) (pieces : List TextPiece) (edits : List Edit) (text : O
 edited_is next pieces edits None new = sym new
 edited_is next pieces edits (Some t) new = sym new.0
 
+-- ---- whether the rule runs
+
+module _ (rules : List Rule) (number : ℕ) (rule : Rule) (is : slice_get rules number ≡ Some rule) (needed : NeededNotes) (runs : Bool) where
+  -- the rules that ran with it, by their numbers
+  abbrev Ran : List Pairs → Type 0
+  Ran envs = (ran : List Rule) × (AreNumbered rules ran (ran_number runs number)
+      × (record needed { ran = ran_after needed.ran rule envs } ≡ record needed { ran = needed.ran ++ ran }))
+
+  ran_by : (envs : List Pairs) → runs ≡ not (is_empty envs) → Ran envs
+  ran_by [] e =
+      ([], (subst (λ (b : Bool). AreNumbered rules [] (ran_number b number)) (sym e) tt, λ i. record needed { ran = sym (append-nil needed.ran) i }))
+  ran_by (env ∷ envs) e = (rule ∷ [], (subst (λ (b : Bool). AreNumbered rules (rule ∷ []) (ran_number b number)) (sym e) (is, tt), refl))
+
 -- ---- one rule
 
 module _ (defined : List (List ℕ)) (rules : List Rule) (number : ℕ) (rule : Rule) (lt : number < length rules) (at : rule ≡ get_or rules number rule) where
-  pub leads : (file : FileItems) (next : ℕ) (s : Chained) (findings : FileState) (text : Option NewText) → IsAtReading file next s
-      → IsOutcome defined number rule s findings text → LeadsOn defined rules number s (number + 1) findings text
-  leads file next s findings text reading works = record {
-    state = state_after defined number rule s works.edits;
-    findings_are = works.findings_are;
-    page = page_is file next s works.edits text reading works.text_is;
-    pieces = refl;
-    items = refl;
-    reading = refl;
-    loaded = refl;
-    skipped = refl;
-    back = λ after end may runs.
-        let rest = drop (number + 1) rules in
-        let e = edited_is s.page.next s.pieces works.edits text works.text_is in
-        let leads_to : Leads defined number rule (is_followed rest) s after = record {
-          edits = works.edits;
-          few = works.few;
-          are = works.are;
-          fine = works.fine;
-          reads = subst (λ (b : Bool). MayRead (b && is_followed rest) (state_after defined number rule s works.edits) after) e may;
-        } in
-        let one : number + 1 ≡ suc number = omega arith in
-        subst (λ (x : List Rule). Runs defined number x s end) (sym (left_of rules number rule lt at))
-        (inr (after, (leads_to, subst (λ (n : ℕ). Runs defined n rest after end) one runs)));
-  }
+  this_rule : slice_get rules number ≡ Some rule
+  this_rule = slice_get-get_or rules number rule lt ∙ ap Some (sym at)
+
+  pub leads : (file : FileItems) (next : ℕ) (s : Chained) (findings : FileState) (text : Option NewText) (runs : Bool) → IsAtReading file next s
+      → IsOutcome defined number rule s findings text runs → LeadsOn defined rules number s (number + 1) findings text (ran_number runs number)
+  leads file next s findings text runs reading works =
+      let ran = ran_by rules number rule this_rule s.needed runs (rule_projections defined s.had number rule s.items s.file_envs) works.ran_is in
+      record {
+        state = state_after defined number rule s works.edits;
+        findings_are = works.findings_are;
+        page = page_is file next s works.edits text reading works.text_is;
+        pieces = refl;
+        items = refl;
+        reading = refl;
+        loaded = refl;
+        skipped = refl;
+        ran_rules = ran.0;
+        numbered = ran.1.0;
+        needed = ran.1.1;
+        back = λ after end may runs.
+            let rest = drop (number + 1) rules in
+            let e = edited_is s.page.next s.pieces works.edits text works.text_is in
+            let leads_to : Leads defined number rule (is_followed rest) s after = record {
+              edits = works.edits;
+              few = works.few;
+              are = works.are;
+              fine = works.fine;
+              reads = subst (λ (b : Bool). MayRead (b && is_followed rest) (state_after defined number rule s works.edits) after) e may;
+            } in
+            let one : number + 1 ≡ suc number = omega arith in
+            subst (λ (x : List Rule). Runs defined number x s end) (sym (left_of rules number rule lt at))
+            (inr (after, (leads_to, subst (λ (n : ℕ). Runs defined n rest after end) one runs)));
+      }
 
   pub refuses : (s : Chained) (fault : FileFault) → IsFault defined number rule s fault → Runs defined number (drop number rules) s (Refused fault)
   refuses s fault is =

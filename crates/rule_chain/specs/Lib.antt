@@ -1,9 +1,11 @@
 -- What the contract of the chain depends on, in reading order; rule_run comes first.
 pub mod Chain
+pub mod Passed
 pub mod Results
 pub mod Required
--- What is known of a rule that is ready to run has one proof, so that a struct may keep it.
+-- What is known of a rule that is ready to run, and of the words that it needs, has one proof, so that a struct may keep it.
 pub mod OneProof
+pub mod RuleWords
 -- For internal use: the rules over one reading.
 pub mod Stops
 -- What rule_witnesses defines.

@@ -6,18 +6,20 @@ use Rattle.rule_chain.specs.RuleWitnesses.Bare.{bare_witness}
 use Rattle.rule_chain.specs.declared.state.Applied.{Applied}
 use Rattle.rule_chain.specs.declared.rule_run.fault.FileFault.{FileFault}
 use Rattle.rule_chain.specs.declared.rule_run.fault.FileFault.TheVariants.{NoMemory}
-use Rattle.rule_chain.specs.RuleRun.States.{Chained}
-use Rattle.rule_chain.specs.Chain.{Chain, Done, Refused}
+use Rattle.run_choices.specs.declared.unread.Unread.{Unread}
+use Rattle.rule_chain.specs.RuleRun.States.{Chained, told_notes}
+use Rattle.rule_chain.specs.Chain.{Done, Refused}
+use Rattle.rule_chain.specs.Passed.{EndsBy}
 
--- what is returned of the last state: the text, the witnesses, the skipped items and the environments
-pub record AnswersState (applied : Applied) (s : Chained) : Type 0 where
+-- what is returned of the last state: the text, the witnesses, the notes on skipped items that are told, and the environments
+pub record AnswersState (choice : Unread) (applied : Applied) (s : Chained) : Type 0 where
   pub bytes : applied.bytes.items ≡ s.page.bytes
   pub witnesses : map bare_witness applied.witnesses ≡ s.found
-  pub skipped : applied.skipped ≡ s.skipped
+  pub skipped : applied.skipped ≡ told_notes choice s
   pub envs : map bare_env applied.envs ≡ map (λ c. c.env) s.file_envs
 
--- The chain ends with a last state, which is returned; or it ends at its first fault, which is returned; or memory ran out.
-abbrev pub IsResult : List Rule → List (List ℕ) → List ℕ → Result Applied FileFault → Type 0
-IsResult rules defined bytes (Ok applied) =
-    (s : Chained) × (Chain rules defined bytes (Done s) × AnswersState applied s)
-IsResult rules defined bytes (Err fault) = (fault ≡ NoMemory) ⊎ Chain rules defined bytes (Refused fault)
+-- The rules end with a last state, which is returned; or they end at the first fault, which is returned; or memory ran out.
+abbrev pub IsResult : Unread → List Rule → List (List ℕ) → List ℕ → Result Applied FileFault → Type 0
+IsResult choice rules defined bytes (Ok applied) =
+    (s : Chained) × (EndsBy choice rules defined bytes (Done s) × AnswersState choice applied s)
+IsResult choice rules defined bytes (Err fault) = (fault ≡ NoMemory) ⊎ EndsBy choice rules defined bytes (Refused fault)

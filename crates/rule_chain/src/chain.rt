@@ -10,7 +10,8 @@ ghost use Rattle.rule_chain.specs.Results.{IsResult, AnswersState};
 ghost use Rattle.rule_chain.specs.Stops.{IsAt, ComesOf, Steps, IsFurther};
 
 use crate::answers::answer;
-use crate::notes::with_notes;
+use crate::notes::{with_first, with_last};
+use crate::passing::{is_passed, untouched};
 use crate::patch_rules::PatchRules;
 use crate::reading::Reading;
 use crate::readings::{cut, read, read_again};
@@ -21,6 +22,7 @@ use crate::state::{Applied, Reached, Step};
 use c_terms::NoMemory;
 use par_match::{Gate, Workers};
 use rule_envs::first_file_envs;
+use run_choices::Unread;
 use sqlite_items::Items;
 use std::alloc::Global;
 use std::thread::Threads;
@@ -29,18 +31,18 @@ use std::thread::Threads;
 const MOST_IDS: u64 = 4_611_686_018_427_387_904;
 
 /// Returns the state of the chain before the first rule.
-fn begin(alloc: Global, bytes: Vec<u8>) -> Result<Reached, NoMemory>
+fn begin(alloc: Global, unread: Unread, bytes: Vec<u8>) -> Result<Reached, NoMemory>
     ensures cut { IfOk result (λ r. Lexes bytes.items r.file.pieces) }
     ensures reads { IfOk result (λ r. Reads r.file.pieces r.file.items) }
     ensures at { IfOk result (λ r. (reads : Reads r.file.pieces r.file.items) →
-        IsAt r (first_state r.file.pieces reads.0 r.file.items)) }
+        IsAt unread r (first_state r.file.pieces reads.0 r.file.items)) }
     ensures done { IfOk result (λ r. r.done ≡ 0) }
     ensures reading { IfOk result (λ r. r.reading ≡ 0) }
 {
     let lexed = cut(alloc, bytes.as_slice())?;
     let next = lexed.token_count() as u64;
     let file = read(alloc, lexed)?;
-    let skipped = with_notes(Items::new(alloc), next, 0, &file)?;
+    let skipped = with_first(unread, Items::new(alloc), next, 0, &file)?;
     let findings = FileState {
         file_envs: first_file_envs(alloc)?,
         had: Items::new(alloc),
@@ -68,24 +70,25 @@ struct Edited {
 }
 
 /// Returns the step that follows a rule that edits: reads the text again if another rule follows, and ends the chain if not.
+/// `skipped` are the notes that are told so far.
 fn go_on(
     alloc: Global,
-    count: usize,
+    rules: &PatchRules<'_>,
     reading: u32,
     loaded: u64,
     skipped: Items<SkipNote>,
     edited: Edited,
 ) -> Result<Step, NoMemory>
     requires reading { reading + 1 < 2 ^ 32 }
-    ensures comes { IfOk result (ComesOf count edited.findings edited.text reading loaded skipped edited.done) }
-    ensures further { IfOk result (λ st. (from : ℕ) → from < edited.done → IsFurther from count reading st) }
+    ensures comes { IfOk result (ComesOf rules.now.unread rules.now.patch.now.rules edited.findings edited.text reading loaded skipped edited.done) }
+    ensures further { IfOk result (λ st. (from : ℕ) → from < edited.done → IsFurther from (length rules.now.patch.now.rules) reading st) }
 {
     let Edited {
         findings,
         done,
         text,
     } = edited;
-    if done >= count {
+    if done >= rules.count() {
         return Ok(Step::Ended(answer(alloc, text.bytes, skipped, findings)?));
     }
     let file = read_again(alloc, &text)?;
@@ -94,7 +97,7 @@ fn go_on(
         ids: _,
         next,
     } = text;
-    let skipped = with_notes(skipped, loaded, reading + 1, &file)?;
+    let skipped = with_first(rules.unread, skipped, loaded, reading + 1, &file)?;
     Ok(Step::On(Reached {
         bytes,
         file,
@@ -116,9 +119,9 @@ fn next_reading<R: Threads + Sync, G: Gate>(
 ) -> Result<Step, FileFault>
     requires within { reached.done ≤ length rules.now.patch.now.rules }
     requires reading { reached.reading ≤ reached.done }
-    ensures step { IfOk result (λ st. (s : Chained) → IsAt reached s → Steps rules.now.defined.now rules.now.patch.now.rules reached.done s st) }
+    ensures step { IfOk result (λ st. (s : Chained) → IsAt rules.now.unread reached s → Steps rules.now.unread rules.now.defined.now rules.now.patch.now.rules reached.done s st) }
     ensures further { IfOk result (IsFurther reached.done (length rules.now.patch.now.rules) reached.reading) }
-    ensures fault { IfErr result (λ f. (f ≡ fault.NoMemory) ⊎ ((s : Chained) → IsAt reached s
+    ensures fault { IfErr result (λ f. (f ≡ fault.NoMemory) ⊎ ((s : Chained) → IsAt rules.now.unread reached s
         → Runs rules.now.defined.now reached.done (drop reached.done rules.now.patch.now.rules) s (Refused f))) }
 {
     if reached.next > MOST_IDS {
@@ -134,14 +137,15 @@ fn next_reading<R: Threads + Sync, G: Gate>(
         skipped,
         done,
     } = reached;
-    let count = rules.count();
     let read = Reading { file: &file, next };
     let stopped = over_reading(workers, rules, done, &read, findings)?;
     let ReadingEnd {
         findings,
         done,
         text,
+        ran,
     } = stopped;
+    let skipped = with_last(rules, skipped, loaded, reading, &file, ran.as_slice())?;
     match text {
         None => Ok(Step::Ended(answer(workers.alloc, bytes, skipped, findings)?)),
         Some(text) => {
@@ -150,7 +154,7 @@ fn next_reading<R: Threads + Sync, G: Gate>(
                 done,
                 text,
             };
-            Ok(go_on(workers.alloc, count, reading, loaded, skipped, edited)?)
+            Ok(go_on(workers.alloc, rules, reading, loaded, skipped, edited)?)
         }
     }
 }
@@ -163,9 +167,9 @@ fn over_readings<R: Threads + Sync, G: Gate>(
 ) -> Result<Applied, FileFault>
     requires done { reached.done ≡ 0 }
     requires reading { reached.reading ≡ 0 }
-    ensures done { IfOk result (λ applied. (s : Chained) → IsAt reached s
-        → (last : Chained) × (Runs rules.now.defined.now 0 rules.now.patch.now.rules s (Done last) × AnswersState applied last)) }
-    ensures fault { IfErr result (λ f. (f ≡ fault.NoMemory) ⊎ ((s : Chained) → IsAt reached s
+    ensures done { IfOk result (λ applied. (s : Chained) → IsAt rules.now.unread reached s
+        → (last : Chained) × (Runs rules.now.defined.now 0 rules.now.patch.now.rules s (Done last) × AnswersState rules.now.unread applied last)) }
+    ensures fault { IfErr result (λ f. (f ≡ fault.NoMemory) ⊎ ((s : Chained) → IsAt rules.now.unread reached s
         → Runs rules.now.defined.now 0 rules.now.patch.now.rules s (Refused f))) }
 {
     let count = rules.count();
@@ -202,7 +206,12 @@ fn over_readings<R: Threads + Sync, G: Gate>(
 /// - `NoMemory`: out of memory; or ids go beyond 2^62, a reading has 2^32 items or more, or the new text isn't cut into as many
 ///   tokens as it has ids.
 ///
-/// All but the last carry the number of the rule, from 0. Costs one [`crate::rule_run::run_rule`] per rule, one reading of the
+/// All but the last carry the number of the rule, from 0.
+///
+/// Unless all items that can't be read are told of, a text is passed over in which each rule lacks a word that it needs: it is
+/// neither cut nor read, and returned as it is. The chain would end so too (law `unread_changes_notes_alone`).
+///
+/// Costs one [`crate::rule_run::run_rule`] per rule, one reading of the
 /// text at the start, and one after each rule that edits and is followed by another.
 pub fn apply<R: Threads + Sync, G: Gate>(
     workers: &Workers<'_, R, G>,
@@ -210,9 +219,12 @@ pub fn apply<R: Threads + Sync, G: Gate>(
     bytes: Vec<u8>,
 ) -> Result<Applied, FileFault>
     requires short { length bytes.items ≤ most_bytes }
-    ensures result { IsResult rules.now.patch.now.rules rules.now.defined.now bytes.items result }
+    ensures result { IsResult rules.now.unread rules.now.patch.now.rules rules.now.defined.now bytes.items result }
 {
-    let reached = begin(workers.alloc, bytes)?;
+    if is_passed(rules, bytes.as_slice()) {
+        return Ok(untouched(workers.alloc, bytes)?);
+    }
+    let reached = begin(workers.alloc, rules.unread, bytes)?;
     let applied = over_readings(workers, rules, reached)?;
     Ok(applied)
 }

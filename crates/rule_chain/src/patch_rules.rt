@@ -4,11 +4,14 @@ ghost use Rattle.std.specs.List.{AllZip};
 ghost use Rattle.ctl_formula.specs.contracts.formula.Formula as formula;
 ghost use Rattle.rule_envs.specs.RuleFormulas.Prepared.{IsPrepared, ArePrepared};
 ghost use Rattle.rule_chain.specs.Required.{MayRun};
+ghost use Rattle.rule_chain.specs.RuleWords.{AreRuleWords, rule_words-prop};
 ghost use Rattle.rule_chain.specs.OneProof.{is_prepared-prop, are_prepared-prop, may_run-prop, all_may_run-prop};
 
 use c_terms::Text;
 use rule_envs::{Prepared, PreparedRule};
+use run_choices::Unread;
 use smpl_patch::{Patch, Rule};
+use sqlite_items::Items;
 
 /// The rules of a patch, ready to run.
 #[derive(Clone, Copy)]
@@ -18,10 +21,16 @@ pub struct PatchRules<'p> {
     pub prepared: &'p Prepared,
     /// The virtual names that are defined.
     pub defined: &'p [Text],
+    /// Which of the items that can't be read are told of. Unless all are, a text in which each rule lacks a word isn't read.
+    pub unread: Unread,
+    /// What [`words_of_rules`](crate::words_of_rules) returned for these.
+    pub words: &'p [Items<Text>],
     pub ghost few: { length patch.now.rules < 2 ^ 32 },
     pub ghost prepared_are: { ArePrepared patch.now.rules prepared.now.rules } by { are_prepared-prop formula.the_row.coded
         patch.now.rules prepared.now.rules },
     pub ghost may: { AllZip MayRun patch.now.rules prepared.now.rules } by { all_may_run-prop patch.now.rules prepared.now.rules },
+    pub ghost words_are: { AreRuleWords unread prepared.now.rules words.now } by { rule_words-prop unread prepared.now.rules
+        words.now },
 }
 
 /// A rule of a patch, ready to run.

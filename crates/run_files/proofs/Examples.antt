@@ -1,6 +1,7 @@
 -- The definitions at small values, above all where two readings differ.
 use Rattle.std.proofs.Common.{◌≡◌, ℕ, Bool, true, false, Some, None, List, [], ◌∷◌, refl, codes}
 use Rattle.run_acts.specs.Acts.{Report}
+use Rattle.run_choices.specs.declared.unread.Unread.TheVariants as unread
 use Rattle.run_words.specs.declared.order.Mode.{Mode}
 use Rattle.run_words.specs.Orders.{OnFiles, OnText}
 use Rattle.smpl_patch.specs.declared.pattern.Mark.{Mark}
@@ -12,13 +13,16 @@ use Rattle.smpl_patch.specs.declared.rule.Rule.{Rule}
 use Rattle.smpl_patch.specs.declared.rule.Patch.{Patch}
 use Rattle.smpl_patch.specs.declared.witness.RuleWitness.{RuleWitness}
 use Rattle.smpl_notes.specs.declared.note.Slip.TheVariants as slip
+use Rattle.smpl_notes.specs.declared.kind_word.KindWord.TheVariants as kind
 use Rattle.smpl_notes.specs.declared.note.Note.{Note}
 use Rattle.smpl_notes.specs.declared.note.Note.TheVariants.{NoSign, InRule}
+use Rattle.rule_chain.specs.RuleRun.Needed.{none_needed}
 use Rattle.rule_chain.specs.RuleRun.States.{Chained}
 use Rattle.run_files.specs.declared.tally.Tally.{Tally}
+use Rattle.run_files.specs.declared.run_lines.notes.NoteLines.{NoteLines}
 use Rattle.run_files.specs.RunLines.Further.{further, told_place}
 use Rattle.run_files.specs.RunLines.Names.{quoted_name}
-use Rattle.run_files.specs.RunLines.Notes.{unplaced_line, rule_text, note_line, note_lines}
+use Rattle.run_files.specs.RunLines.Notes.{unplaced_line, rule_text, note_line, no_lines, note_lines}
 use Rattle.run_files.specs.Treatment.{is_hit, naming}
 use Rattle.run_files.specs.RunStages.Stages.{end_status, first_course, after_file, told}
 
@@ -46,6 +50,14 @@ plain_e = InRule 0 (Some (record { line = 3; column = 5 })) (slip.PlainName (cod
 abbrev unplaced_e : Note
 unplaced_e = InRule 0 None (slip.PlainName (codes "e"))
 
+-- `expresion e;`
+abbrev misspelt : Note
+misspelt = InRule 0 (Some (record { line = 2; column = 1 })) (slip.MisspeltKind (codes "expresion") kind.Expression)
+
+placed_kind : note_line (codes "p") misspelt
+    ≡ further (codes "p") (record { line = 2; column = 1 }) (codes "note: expresion is taken for a type; is it expression?")
+placed_kind = refl
+
 placed_line : note_line (codes "p") plain_e
     ≡ further (codes "p") (record { line = 3; column = 5 }) (codes "note: e is a plain name here; is it a metavariable?")
 placed_line = refl
@@ -58,17 +70,22 @@ on_the_patch : note_line (codes "p") NoSign ≡ codes "  p: note: no line has -,
 on_the_patch = refl
 
 abbrev mode : (witnesses quiet : Bool) → Mode
-mode witnesses quiet = record { witnesses = witnesses; in_place = false; check = false; quiet = quiet }
+mode witnesses quiet = record { witnesses = witnesses; in_place = false; check = false; quiet = quiet; unread = unread.All }
 
 -- a report needs no sign
-of_report : note_lines (codes "p") false (OnFiles (mode true false) []) (NoSign ∷ plain_e ∷ []) ≡ note_line (codes "p") plain_e ∷ []
+of_report : (note_lines (codes "p") false (OnFiles (mode true false) []) (NoSign ∷ plain_e ∷ [])).all ≡ note_line (codes "p") plain_e ∷ []
 of_report = refl
 
-of_quiet : note_lines (codes "p") false (OnFiles (mode false true) []) (NoSign ∷ []) ≡ []
+of_quiet : note_lines (codes "p") false (OnFiles (mode false true) []) (misspelt ∷ []) ≡ no_lines
 of_quiet = refl
 
-of_generated : note_lines (codes "p") false (OnText 1 2 false) (NoSign ∷ []) ≡ []
+of_generated : note_lines (codes "p") false (OnText 1 2 false unread.All) (misspelt ∷ []) ≡ no_lines
 of_generated = refl
+
+-- a misspelt kind is told where something was found too, and nothing else is
+of_kinds : (note_lines (codes "p") false (OnFiles (mode false false) []) (NoSign ∷ plain_e ∷ misspelt ∷ [])).always
+    ≡ note_line (codes "p") misspelt ∷ []
+of_kinds = refl
 
 quiet_place : told_place true (Some (record { line = 3; column = 5 })) ≡ None
 quiet_place = refl
@@ -82,14 +99,19 @@ tally refused hit found = record { refused = refused; hit = hit; found = found }
 statuses : end_status (tally false true true) ∷ end_status (tally false false true) ∷ end_status (tally true true true) ∷ [] ≡ 8 ∷ 0 ∷ 4 ∷ []
 statuses = refl
 
--- notes are told where nothing was found in any file and none was refused
-told_after : told (after_file (first_course (codes "x" ∷ [])) (tally false false false)) ≡ Report (codes "x") ∷ []
+-- all notes are told where nothing was found in any file and none was refused
+abbrev notes : NoteLines
+notes = record { all = codes "x" ∷ codes "y" ∷ []; always = codes "y" ∷ [] }
+
+told_after : told (after_file (first_course notes) (tally false false false)) ≡ Report (codes "x") ∷ Report (codes "y") ∷ []
 told_after = refl
 
-not_told_after : told (after_file (after_file (first_course (codes "x" ∷ [])) (tally false false true)) (tally false false false)) ≡ []
-not_told_after = refl
+-- where something was found, those that are always told
+found_after : told (after_file (after_file (first_course notes) (tally false false true)) (tally false false false)) ≡ Report (codes "y") ∷ []
+found_after = refl
 
-refused_untold : told (after_file (first_course (codes "x" ∷ [])) (tally true false false)) ≡ []
+-- and where a file was refused, none
+refused_untold : told (after_file (after_file (first_course notes) (tally false false true)) (tally true false false)) ≡ []
 refused_untold = refl
 
 -- ---- hits
@@ -118,6 +140,7 @@ after_rules bytes found = record {
   found = found;
   loaded = 0;
   skipped = [];
+  needed = none_needed [];
 }
 
 -- what a rule of context finds is no hit, and neither is an edit after which the text is the same

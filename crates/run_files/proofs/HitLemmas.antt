@@ -9,6 +9,7 @@ use Rattle.std.proofs.lemmas.List.{length-map}
 use Rattle.std.proofs.lemmas.Bool.Decides.{leb_tells}
 use Rattle.std.proofs.Math.Path.{fun_ext}
 use Rattle.c_terms.specs.Same.{same_bytes}
+use Rattle.run_choices.specs.declared.unread.Unread.{Unread}
 use Rattle.smpl_patch.specs.declared.rule.Rule.{Rule}
 use Rattle.smpl_patch.specs.declared.rule.Patch.{Patch}
 use Rattle.smpl_patch.specs.declared.witness.RuleWitness.{RuleWitness}
@@ -42,7 +43,8 @@ any_bare : (patch : Patch) (ws : List RuleWitness) → list_any (is_starred patc
 any_bare patch [] = refl
 any_bare patch (w ∷ ws) = ap (λ (rest : Bool). is_starred patch w || rest) (any_bare patch ws)
 
-module _ (check : Bool) (patch : Patch) (bytes : List ℕ) (applied : Applied) (s : Chained) (a : AnswersState applied s) where
+module _ (check : Bool) (patch : Patch) (bytes : List ℕ) (applied : Applied) (choice : Unread) (s : Chained)
+    (a : AnswersState choice applied s) where
   hit_by : (same : Bool) → check ≡ true → same_bytes bytes applied.bytes.items ≡ same
       → (check && is_hit patch bytes s) ≡ (not same || list_any (is_starred patch) s.found)
   hit_by same on is =
@@ -76,7 +78,7 @@ not_empty [] b is = ap not (is.1 refl)
 not_empty (w ∷ ws) true is = let e : w ∷ ws ≡ [] = is.0 refl in absurd (cc)
 not_empty (w ∷ ws) false is = sym (one_of_more (length ws))
 
-pub has_some : (applied : Applied) (s : Chained) (b : Bool) → AnswersState applied s → IsTrue b ↔ (applied.witnesses ≡ [])
+pub has_some : (applied : Applied) (choice : Unread) (s : Chained) (b : Bool) → AnswersState choice applied s → IsTrue b ↔ (applied.witnesses ≡ [])
     → not b ≡ nat_le 1 (length s.found)
-has_some applied s b a is =
+has_some applied choice s b a is =
     not_empty applied.witnesses b is ∙ ap (nat_le 1) (sym (length-map applied.witnesses bare_witness) ∙ ap length a.witnesses)

@@ -7,6 +7,7 @@ use Rattle.c_terms.specs.Same.{same_bytes}
 use Rattle.c_lexer.specs.Pieces.{most_bytes}
 use Rattle.outer_io.specs.Files.{Files}
 use Rattle.run_acts.specs.Acts.{Act, Store, Print, Report}
+use Rattle.run_choices.specs.declared.unread.Unread.{Unread}
 use Rattle.run_words.specs.declared.order.Mode.{Mode}
 use Rattle.c_places.specs.declared.places.TextPlaces.{TextPlaces}
 use Rattle.c_places.specs.Starts.{ArePlaces}
@@ -22,8 +23,9 @@ use Rattle.smpl_patch.specs.declared.witness.RuleWitness.{RuleWitness}
 use Rattle.wit_print.specs.Report.{report_of}
 use Rattle.rule_chain.specs.declared.rule_run.fault.FileFault.{FileFault}
 use Rattle.rule_chain.specs.declared.rule_run.state.SkipNote.{SkipNote}
-use Rattle.rule_chain.specs.RuleRun.States.{Chained}
-use Rattle.rule_chain.specs.Chain.{Chain, Outcome, Done, Refused}
+use Rattle.rule_chain.specs.RuleRun.States.{Chained, told_notes}
+use Rattle.rule_chain.specs.Chain.{Outcome, Done, Refused}
+use Rattle.rule_chain.specs.Passed.{EndsBy}
 
 -- the maximum number of bytes of a file
 abbrev pub file_limit : ℕ
@@ -90,9 +92,9 @@ storing name old new = cond (same_bytes old new) [] (Store name new ∷ [])
 abbrev pub note_act : List ℕ → List ℕ → TextPlaces → SkipNote → Act
 note_act name text places note = Report (skipped_line name (note_place text places note) note)
 
--- the lines of the skipped items, reading by reading
-abbrev pub skipped_lines : List ℕ → List ℕ → TextPlaces → Chained → List Act
-skipped_lines name text places s = map (note_act name text places) s.skipped
+-- the lines of the skipped items that are told of, reading by reading
+abbrev pub skipped_lines : Unread → List ℕ → List ℕ → TextPlaces → Chained → List Act
+skipped_lines unread name text places s = map (note_act name text places) (told_notes unread s)
 
 -- a refused text leads to the line of its fault, by where the tokens of the loaded text begin
 abbrev pub faulted : List ℕ → List ℕ → TextPlaces → FileFault → Treated
@@ -117,21 +119,21 @@ stored_after mode name bytes s = cond mode.in_place (storing name bytes s.page.b
 -- what results from the outcome of the rules over a file whose tokens begin at these places
 abbrev pub treated_by : Mode → Patch → List ℕ → List ℕ → TextPlaces → Outcome → Treated
 treated_by mode patch name bytes places (Done s) =
-    effects (skipped_lines name bytes places s ++ shown mode patch name bytes s ++ stored_after mode name bytes s)
+    effects (skipped_lines mode.unread name bytes places s ++ shown mode patch name bytes s ++ stored_after mode name bytes s)
     (mode.check && is_hit patch bytes s) (nat_le 1 (length s.found))
 treated_by mode patch name bytes places (Refused fault) = faulted name bytes places fault
 
 -- what results from the outcome of the rules over a generated text
-abbrev pub summed_by : Patch → List ℕ → List ℕ → TextPlaces → Outcome → Treated
-summed_by patch name bytes places (Done s) =
-    effects (skipped_lines name bytes places s ++ printing (summary patch.rules s.found (length s.page.bytes))) false (nat_le 1 (length s.found))
-summed_by patch name bytes places (Refused fault) = faulted name bytes places fault
+abbrev pub summed_by : Patch → Unread → List ℕ → List ℕ → TextPlaces → Outcome → Treated
+summed_by patch unread name bytes places (Done s) =
+    effects (skipped_lines unread name bytes places s ++ printing (summary patch.rules s.found (length s.page.bytes))) false (nat_le 1 (length s.found))
+summed_by patch unread name bytes places (Refused fault) = faulted name bytes places fault
 
 -- this is the treatment of the bytes of a file of this name: there are too many, or it follows from the outcome of the rules
 abbrev pub IsTreatmentOf : Mode → Patch → List (List ℕ) → List ℕ → List ℕ → Treated → Type 0
 IsTreatmentOf mode patch defined name bytes treated =
     ((file_limit < length bytes) × (treated ≡ refuses (too_long_line name)))
-    ⊎ ((length bytes ≤ file_limit) × ((end : Outcome) × (Chain patch.rules defined bytes end
+    ⊎ ((length bytes ≤ file_limit) × ((end : Outcome) × (EndsBy mode.unread patch.rules defined bytes end
     × ((places : TextPlaces) × (ArePlaces bytes places × (treated ≡ treated_by mode patch name bytes (told_places mode.quiet places) end))))))
 
 -- This is the treatment of what is stored under this name, with these bytes. If the shelf doesn't reveal what it holds, it may
@@ -141,8 +143,8 @@ IsFileTreatmentOf holds mode patch defined name bytes treated =
     IsTreatmentOf mode patch defined name bytes treated
     ⊎ ((holds ≡ None) × (treated ≡ refuses (special_line name)))
 
--- this is the treatment of a generated text
-abbrev pub Sums : Patch → List (List ℕ) → (quiet : Bool) → List ℕ → List ℕ → Treated → Type 0
-Sums patch defined quiet name bytes treated =
-    (end : Outcome) × (Chain patch.rules defined bytes end
-    × ((places : TextPlaces) × (ArePlaces bytes places × (treated ≡ summed_by patch name bytes (told_places quiet places) end))))
+-- this is the treatment of a generated text, which isn't too long
+abbrev pub Sums : Patch → List (List ℕ) → (quiet : Bool) → Unread → List ℕ → List ℕ → Treated → Type 0
+Sums patch defined quiet unread name bytes treated =
+    (length bytes ≤ file_limit) × ((end : Outcome) × (EndsBy unread patch.rules defined bytes end
+    × ((places : TextPlaces) × (ArePlaces bytes places × (treated ≡ summed_by patch unread name bytes (told_places quiet places) end)))))

@@ -1,6 +1,7 @@
 // Whether a file is hit.
 ghost use Rattle.std.specs.Prelude.{◌≡◌, ◌&&◌, false, map, nat_le, length, slice_get, unwrap_or, IfOk};
 ghost use Rattle.std.specs.List.{list_any};
+ghost use Rattle.run_choices.specs.declared.unread.Unread.{Unread};
 ghost use Rattle.rule_chain.specs.RuleRun.States.{Chained};
 ghost use Rattle.rule_chain.specs.Results.{AnswersState};
 ghost use Rattle.run_files.specs.Treatment as spec;
@@ -72,7 +73,8 @@ pub fn is_checked_hit(
     bytes: &[u8],
     applied: &Applied,
 ) -> Result<bool, NoMemory>
-    ensures { IfOk result (λ hit. (s : Chained) → AnswersState applied.now s → hit ≡ (check && spec.is_hit patch.now bytes.now s)) }
+    ensures { IfOk result (λ hit. (unread : Unread) (s : Chained) → AnswersState unread applied.now s →
+        hit ≡ (check && spec.is_hit patch.now bytes.now s)) }
 {
     if !check {
         return Ok(false);
@@ -85,7 +87,7 @@ pub fn is_checked_hit(
 
 /// Whether the rules found something.
 pub fn has_witness(applied: &Applied) -> bool
-    ensures { (s : Chained) → AnswersState applied.now s → result ≡ nat_le 1 (length s.found) }
+    ensures { (unread : Unread) (s : Chained) → AnswersState unread applied.now s → result ≡ nat_le 1 (length s.found) }
 {
     !applied.witnesses.is_empty()
 }

@@ -2,9 +2,12 @@
 ghost use Rattle.std.specs.Prelude.{List, ℕ};
 ghost use Rattle.smpl_patch.specs.declared.rule.Rule.{Rule};
 ghost use Rattle.rule_chain.specs.declared.rule_run.fault.FileFault.TheVariants as cause;
-ghost use Rattle.rule_chain.specs.Chain.{Chain, Refused};
+ghost use Rattle.rule_chain.specs.Chain.{Refused};
+ghost use Rattle.rule_chain.specs.Passed.{EndsBy};
+ghost use Rattle.run_choices.specs.declared.unread.Unread.{Unread};
 
 /// No text is refused because memory ran out, so the line of a refusal always says why. Does nothing.
 pub fn refusals_say_why()
-    ensures { (rules : List Rule) (defined : List (List ℕ)) (bytes : List ℕ) → Chain rules defined bytes (Refused cause.NoMemory) → ⊥ }
+    ensures { (unread : Unread) (rules : List Rule) (defined : List (List ℕ)) (bytes : List ℕ) →
+        EndsBy unread rules defined bytes (Refused cause.NoMemory) → ⊥ }
 {}

@@ -33,7 +33,7 @@ pub use effects::{refuse_long, refuse_special};
 pub use laws::refusals_say_why;
 pub use process::{process_file, sum};
 pub use run_lines::{
-    forms_line, iso_byte, iso_fault_line, note_line, note_lines, patch_fault_line, placed,
-    refused_words, said, told_place,
+    NoteLines, forms_line, iso_byte, iso_fault_line, note_line, note_lines, patch_fault_line,
+    placed, refused_words, said, told_place,
 };
 pub use tally::Tally;

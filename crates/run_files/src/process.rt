@@ -6,6 +6,7 @@ ghost use Rattle.run_acts.specs.Acts.{observed};
 ghost use Rattle.run_acts.specs.Breaks.{counts};
 ghost use Rattle.run_acts.specs.Places.{SamePlaces};
 ghost use Rattle.run_acts.specs.Statuses.{status_of};
+ghost use Rattle.run_choices.specs.declared.unread.Unread.{Unread};
 ghost use Rattle.rule_chain.specs.RuleRun.States.{Chained};
 ghost use Rattle.rule_chain.specs.Results.{AnswersState};
 ghost use Rattle.run_files.specs.RunLines.Summary as lines;
@@ -38,7 +39,7 @@ const GENERATED_NAME: &str = "generated";
 /// Applies the patch to the bytes of a file, outputs the result, and returns what is known of it: whether it is refused, whether
 /// it is hit, which is looked at with `check` alone, and whether something was found.
 ///
-/// The acts are, in this order: a line on the error output for each skipped item, reading by reading; on the output the report,
+/// The acts are, in this order: a line on the error output for each skipped item that is told of, reading by reading; on the output the report,
 /// or else with `check` the name of the file if it is hit, or else the new text; and, with `in_place`, a store of the new text
 /// if it changed. For a refused file, the only act is the line of the refusal. With `quiet`, no line has a place.
 ///
@@ -54,6 +55,7 @@ pub fn process_file<R: Threads + Sync, S: Shelf, O: Sink, E: Sink, G: Gate>(
     outside: &mut Outside<'_, '_, '_, S, O, E>,
 ) -> Result<Tally, Stopped>
     requires short { length bytes.items ≤ most_bytes }
+    requires unread { rules.now.unread ≡ mode.unread }
     ensures same { SamePlaces outside.old outside.new }
     ensures treated { IfOk result (λ tally. TreatsAll (IsTreatmentOf mode rules.now.patch.now rules.now.defined.now name.now bytes.items) tally
         (observed (S.holds outside.old.shelf.now) (S.stores outside.old.shelf.now) (O.written outside.old.out.now) (E.written outside.old.err.now))
@@ -100,12 +102,13 @@ fn show_report<O: Sink, E: Sink>(
     out: &mut O,
     err: &mut E,
 ) -> Result<(), Stopped>
-    ensures done { OnOk result ((s : Chained) (files : Option Files) (stores : ℕ) → AnswersState applied.now s →
+    ensures done { OnOk result ((unread : Unread) (s : Chained) (files : Option Files) (stores : ℕ) → AnswersState unread applied.now s →
         Does (printing (report_is patch.now name.now s.found))
         (observed files stores (O.written out.old) (E.written err.old)) (observed files stores (O.written out.new) (E.written err.new))) }
     ensures later { O.faults out.old ≤ O.faults out.new }
     ensures later_err { E.faults err.old ≤ E.faults err.new }
-    ensures stopped { IfErr result (λ stopped. (s : Chained) (files : Option Files) (stores n n' : ℕ) → AnswersState applied.now s →
+    ensures stopped { IfErr result (λ stopped. (unread : Unread) (s : Chained) (files : Option Files) (stores n n' : ℕ) →
+        AnswersState unread applied.now s →
         Stops (printing (report_is patch.now name.now s.found))
         (counts n (O.faults out.old) (E.faults err.old)) (counts n' (O.faults out.new) (E.faults err.new))
         (observed files stores (O.written out.old) (E.written err.old)) (observed files stores (O.written out.new) (E.written err.new))
@@ -126,13 +129,13 @@ fn show_file<S: Shelf, O: Sink, E: Sink>(
     outside: &mut Outside<'_, '_, '_, S, O, E>,
 ) -> Result<(), Stopped>
     ensures same { SamePlaces outside.old outside.new }
-    ensures done { OnOk result ((s : Chained) → AnswersState applied.now s → Does (printed what patch.now name.now s)
+    ensures done { OnOk result ((unread : Unread) (s : Chained) → AnswersState unread applied.now s → Does (printed what patch.now name.now s)
         (observed (S.holds outside.old.shelf.now) (S.stores outside.old.shelf.now) (O.written outside.old.out.now) (E.written outside.old.err.now))
         (observed (S.holds outside.new.shelf.now) (S.stores outside.new.shelf.now) (O.written outside.new.out.now) (E.written outside.new.err.now))) }
     ensures later { S.faults outside.old.shelf.now ≤ S.faults outside.new.shelf.now }
     ensures later_out { O.faults outside.old.out.now ≤ O.faults outside.new.out.now }
     ensures later_err { E.faults outside.old.err.now ≤ E.faults outside.new.err.now }
-    ensures stopped { IfErr result (λ stopped. (s : Chained) → AnswersState applied.now s → Stops (printed what patch.now name.now s)
+    ensures stopped { IfErr result (λ stopped. (unread : Unread) (s : Chained) → AnswersState unread applied.now s → Stops (printed what patch.now name.now s)
         (counts (S.faults outside.old.shelf.now) (O.faults outside.old.out.now) (E.faults outside.old.err.now))
         (counts (S.faults outside.new.shelf.now) (O.faults outside.new.out.now) (E.faults outside.new.err.now))
         (observed (S.holds outside.old.shelf.now) (S.stores outside.old.shelf.now) (O.written outside.old.out.now) (E.written outside.old.err.now))
@@ -177,7 +180,7 @@ fn store_file<S: Shelf, O: Sink, E: Sink>(
 /// Applies the patch to a generated text, outputs the result, and returns what is known of it: whether it is refused, and
 /// whether something was found. It is never hit.
 ///
-/// The acts are, in this order: a line on the error output for each skipped item, and the summary on the output. For a refused
+/// The acts are, in this order: a line on the error output for each skipped item that is told of, and the summary on the output. For a refused
 /// text, the only act is the line of the refusal. The lines are about the name `generated`, and have no place with `quiet`.
 ///
 /// Costs one [`apply`](rule_chain::apply) and one [`summary`]. Stops at the first act that fails, and when out of memory.
@@ -191,12 +194,12 @@ pub fn sum<R: Threads + Sync, O: Sink, E: Sink, G: Gate>(
 ) -> Result<Tally, Stopped>
     requires short { length bytes.items ≤ most_bytes }
     ensures treated { IfOk result (λ tally. (files : Option Files) (stores : ℕ) →
-        TreatsAll (Sums rules.now.patch.now rules.now.defined.now quiet generated_name bytes.items) tally
+        TreatsAll (Sums rules.now.patch.now rules.now.defined.now quiet rules.now.unread generated_name bytes.items) tally
         (observed files stores (O.written out.old) (E.written err.old)) (observed files stores (O.written out.new) (E.written err.new))) }
     ensures later { O.faults out.old ≤ O.faults out.new }
     ensures later_err { E.faults err.old ≤ E.faults err.new }
     ensures stopped { IfErr result (λ stopped. (files : Option Files) (stores n n' : ℕ) →
-        TreatsPart (Sums rules.now.patch.now rules.now.defined.now quiet generated_name bytes.items)
+        TreatsPart (Sums rules.now.patch.now rules.now.defined.now quiet rules.now.unread generated_name bytes.items)
         (counts n (O.faults out.old) (E.faults err.old)) (counts n' (O.faults out.new) (E.faults err.new))
         (observed files stores (O.written out.old) (E.written err.old)) (observed files stores (O.written out.new) (E.written err.new))
         (status_of stopped)) }
@@ -224,12 +227,13 @@ fn show_summary<O: Sink, E: Sink>(
     out: &mut O,
     err: &mut E,
 ) -> Result<(), Stopped>
-    ensures done { OnOk result ((s : Chained) (files : Option Files) (stores : ℕ) → AnswersState applied.now s →
+    ensures done { OnOk result ((unread : Unread) (s : Chained) (files : Option Files) (stores : ℕ) → AnswersState unread applied.now s →
         Does (printing (lines.summary patch.now.rules s.found (length s.page.bytes)))
         (observed files stores (O.written out.old) (E.written err.old)) (observed files stores (O.written out.new) (E.written err.new))) }
     ensures later { O.faults out.old ≤ O.faults out.new }
     ensures later_err { E.faults err.old ≤ E.faults err.new }
-    ensures stopped { IfErr result (λ stopped. (s : Chained) (files : Option Files) (stores n n' : ℕ) → AnswersState applied.now s →
+    ensures stopped { IfErr result (λ stopped. (unread : Unread) (s : Chained) (files : Option Files) (stores n n' : ℕ) →
+        AnswersState unread applied.now s →
         Stops (printing (lines.summary patch.now.rules s.found (length s.page.bytes)))
         (counts n (O.faults out.old) (E.faults err.old)) (counts n' (O.faults out.new) (E.faults err.new))
         (observed files stores (O.written out.old) (E.written err.old)) (observed files stores (O.written out.new) (E.written err.new))

@@ -6,7 +6,7 @@
 //! - [`placed`] returns the place of a byte of a text, and [`iso_byte`] the byte of a fault in isomorphisms. A line whose place is
 //!   known is followed by a further line, which names the place and says what is wrong there. Under `--quiet` nothing has a
 //!   place, which [`told_place`] says.
-//! - [`note_line`] returns the line of a note on a patch, and [`note_lines`] those that a run tells if it finds nothing.
+//! - [`note_line`] returns the line of a note on a patch, and [`note_lines`] those that a run may tell ([`NoteLines`]).
 //! - [`named_line`] returns the name of a file as a line of the output.
 //! - [`summary`] reports what a patch finds in a generated text.
 //!
@@ -25,7 +25,7 @@ mod words;
 pub use files::{refused_line, skipped_line, special_line, too_long_line};
 pub use further::{placed, placed_on, told_place};
 pub use names::named_line;
-pub use notes::{note_line, note_lines};
+pub use notes::{NoteLines, note_line, note_lines};
 pub use patches::{forms_line, iso_byte, iso_fault_line, patch_fault_line};
 pub use sums::summary;
 pub use words::{refused_words, said};

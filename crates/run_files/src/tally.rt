@@ -1,5 +1,5 @@
 // What is known of the texts that a run has processed.
-ghost use Rattle.std.specs.Prelude.{◌≡◌, ◌||◌, not};
+ghost use Rattle.std.specs.Prelude.{◌≡◌, ◌||◌};
 ghost use Rattle.run_files.specs.Treatment.{refused_tally};
 ghost use Rattle.run_files.specs.RunStages.Stages as stages;
 
@@ -53,12 +53,5 @@ impl Tally {
             hit: either(self.hit, other.hit),
             found: either(self.found, other.found),
         }
-    }
-
-    /// Whether the notes on the patch are told: nothing was refused, and nothing found.
-    pub fn tells_notes(self) -> bool
-        ensures { result ≡ not (self.refused || self.found) }
-    {
-        !either(self.refused, self.found)
     }
 }

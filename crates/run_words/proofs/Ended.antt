@@ -90,14 +90,16 @@ skips (a ∷ front) rest rows h =
 
 abbrev plain_rules : List Rule
 plain_rules = valued_rule (codes "sp-file") ∷ valued_rule (codes "iso-file") ∷ valued_rule (codes "define") ∷ valued_rule (codes "jobs")
-    ∷ valued_rule (codes "generate") ∷ valued_rule (codes "functions") ∷ []
+    ∷ valued_rule (codes "generate") ∷ valued_rule (codes "functions")
+    ∷ valued_rule (codes "unread") ∷ []
 
 abbrev other_rules : List Rule
 other_rules = flag_rule (codes "witnesses") ∷ flag_rule (codes "in-place") ∷ flag_rule (codes "check") ∷ flag_rule (codes "quiet")
     ∷ flag_rule (codes "help") ∷ flag_rule (codes "version") ∷ file_rule ∷ []
 
 ended_is : (rows : List Row) → fold with_default rows spatch_rules ≡ with_flags rows
-ended_is rows = skips plain_rules other_rules rows (refl, (refl, (refl, (refl, (refl, (refl, tt)))))) ∙ skips (file_rule ∷ []) [] (with_flags rows) (refl, tt)
+ended_is rows = skips plain_rules other_rules rows (refl, (refl, (refl, (refl, (refl, (refl, (refl, tt)))))))
+    ∙ skips (file_rule ∷ []) [] (with_flags rows) (refl, tt)
 
 look_defaulted : (flags : List Text) (name : Text) (rows : List Row) → look name (defaulted flags rows) ≡ first_some (look name rows) (default_of flags name)
 look_defaulted [] name rows = sym (none_first (look name rows))
@@ -148,7 +150,7 @@ level_is words =
     let W = walk_fault spatch [] (walk_from nothing_held) words in
     let S = settle_fault spatch.rules spatch.args_override_self end.held in
     let defaults : defaults_fault (settled_rows spatch.rules end.held.pending end.held.rows) spatch_rules ≡ [] =
-    no_defaults spatch_rules (refl, (refl, (refl, (refl, (refl, (refl, (refl, (refl, (refl, (refl, (refl, (refl, (refl, tt)))))))))))))
+    no_defaults spatch_rules (refl, (refl, (refl, (refl, (refl, (refl, (refl, (refl, (refl, (refl, (refl, (refl, (refl, (refl, tt))))))))))))))
     (settled_rows spatch.rules end.held.pending end.held.rows) in
     ap (λ d. or_else W (or_else S (or_else d []))) defaults ∙ ap (or_else W) (or_none S)
 
@@ -263,14 +265,16 @@ no_valued name differs valued = of_one (λ n. bytes_eq n name ≡ false) valued_
 
 -- ---- whole parses
 
-abbrev made : (sp_file iso_file define jobs generate functions : Option Text) (witnesses in_place check quiet help version : Bool) (files : List Text) → Options
-made sp_file iso_file define jobs generate functions witnesses in_place check quiet help version files = record {
+abbrev made : (sp_file iso_file define jobs generate functions unread : Option Text) (witnesses in_place check quiet help version : Bool)
+    (files : List Text) → Options
+made sp_file iso_file define jobs generate functions unread witnesses in_place check quiet help version files = record {
   sp_file = sp_file;
   iso_file = iso_file;
   define = define;
   jobs = jobs;
   generate = generate;
   functions = functions;
+  unread = unread;
   witnesses = witnesses;
   in_place = in_place;
   check = check;
@@ -280,12 +284,12 @@ made sp_file iso_file define jobs generate functions witnesses in_place check qu
   files = files;
 }
 
-same_made : (a1 a2 a3 a4 a5 a6 b1 b2 b3 b4 b5 b6 : Option Text) (a7 a8 a9 a10 a11 a12 b7 b8 b9 b10 b11 b12 : Bool) (a13 b13 : List Text)
-    → a1 ≡ b1 → a2 ≡ b2 → a3 ≡ b3 → a4 ≡ b4 → a5 ≡ b5 → a6 ≡ b6
-    → a7 ≡ b7 → a8 ≡ b8 → a9 ≡ b9 → a10 ≡ b10 → a11 ≡ b11 → a12 ≡ b12 → a13 ≡ b13
-    → made a1 a2 a3 a4 a5 a6 a7 a8 a9 a10 a11 a12 a13 ≡ made b1 b2 b3 b4 b5 b6 b7 b8 b9 b10 b11 b12 b13
-same_made a1 a2 a3 a4 a5 a6 b1 b2 b3 b4 b5 b6 a7 a8 a9 a10 a11 a12 b7 b8 b9 b10 b11 b12 a13 b13 e1 e2 e3 e4 e5 e6 e7 e8 e9 e10 e11 e12 e13 =
-    rw (e1, e2, e3, e4, e5, e6, e7, e8, e9, e10, e11, e12, e13) refl
+same_made : (a1 a2 a3 a4 a5 a6 a7 b1 b2 b3 b4 b5 b6 b7 : Option Text) (a8 a9 a10 a11 a12 a13 b8 b9 b10 b11 b12 b13 : Bool) (a14 b14 : List Text)
+    → a1 ≡ b1 → a2 ≡ b2 → a3 ≡ b3 → a4 ≡ b4 → a5 ≡ b5 → a6 ≡ b6 → a7 ≡ b7
+    → a8 ≡ b8 → a9 ≡ b9 → a10 ≡ b10 → a11 ≡ b11 → a12 ≡ b12 → a13 ≡ b13 → a14 ≡ b14
+    → made a1 a2 a3 a4 a5 a6 a7 a8 a9 a10 a11 a12 a13 a14 ≡ made b1 b2 b3 b4 b5 b6 b7 b8 b9 b10 b11 b12 b13 b14
+same_made a1 a2 a3 a4 a5 a6 a7 b1 b2 b3 b4 b5 b6 b7 a8 a9 a10 a11 a12 a13 b8 b9 b10 b11 b12 b13 a14 b14 e1 e2 e3 e4 e5 e6 e7 e8 e9 e10 e11 e12 e13 e14 =
+    rw (e1, e2, e3, e4, e5, e6, e7, e8, e9, e10, e11, e12, e13, e14) refl
 
 are_collected : (f : Found) (o : Options) (parts : List Part) (end : List Row) → IsFound f o → AreKnown parts → put_all [] parts ≡ Some end
     → rows_of f ≡ with_flags end
@@ -303,27 +307,29 @@ are_collected f o parts end found known put rows =
     ∙ sym (value_at (codes "generate") refl (no_flag (codes "generate") (refl, (refl, (refl, (refl, (refl, (refl, tt))))))) f parts end known put rows) in
     let functions : o.functions ≡ value_of (codes "functions") parts = found.functions
     ∙ sym (value_at (codes "functions") refl (no_flag (codes "functions") (refl, (refl, (refl, (refl, (refl, (refl, tt))))))) f parts end known put rows) in
+    let unread : o.unread ≡ value_of (codes "unread") parts = found.unread
+    ∙ sym (value_at (codes "unread") refl (no_flag (codes "unread") (refl, (refl, (refl, (refl, (refl, (refl, tt))))))) f parts end known put rows) in
     let witnesses : o.witnesses ≡ has_flag (codes "witnesses") parts = found.witnesses (has_flag (codes "witnesses") parts)
-    (flag_at (codes "witnesses") refl (no_valued (codes "witnesses") (refl, (refl, (refl, (refl, (refl, (refl, tt))))))) f parts end known put rows
+    (flag_at (codes "witnesses") refl (no_valued (codes "witnesses") (refl, (refl, (refl, (refl, (refl, (refl, (refl, tt)))))))) f parts end known put rows
     ∙ witnesses_read (has_flag (codes "witnesses") parts)) in
     let in_place : o.in_place ≡ has_flag (codes "in-place") parts = found.in_place (has_flag (codes "in-place") parts)
-    (flag_at (codes "in-place") refl (no_valued (codes "in-place") (refl, (refl, (refl, (refl, (refl, (refl, tt))))))) f parts end known put rows
+    (flag_at (codes "in-place") refl (no_valued (codes "in-place") (refl, (refl, (refl, (refl, (refl, (refl, (refl, tt)))))))) f parts end known put rows
     ∙ in_place_read (has_flag (codes "in-place") parts)) in
     let check : o.check ≡ has_flag (codes "check") parts = found.check (has_flag (codes "check") parts)
-    (flag_at (codes "check") refl (no_valued (codes "check") (refl, (refl, (refl, (refl, (refl, (refl, tt))))))) f parts end known put rows
+    (flag_at (codes "check") refl (no_valued (codes "check") (refl, (refl, (refl, (refl, (refl, (refl, (refl, tt)))))))) f parts end known put rows
     ∙ check_read (has_flag (codes "check") parts)) in
     let quiet : o.quiet ≡ has_flag (codes "quiet") parts = found.quiet (has_flag (codes "quiet") parts)
-    (flag_at (codes "quiet") refl (no_valued (codes "quiet") (refl, (refl, (refl, (refl, (refl, (refl, tt))))))) f parts end known put rows
+    (flag_at (codes "quiet") refl (no_valued (codes "quiet") (refl, (refl, (refl, (refl, (refl, (refl, (refl, tt)))))))) f parts end known put rows
     ∙ quiet_read (has_flag (codes "quiet") parts)) in
     let help : o.help ≡ has_flag (codes "help") parts = found.help (has_flag (codes "help") parts)
-    (flag_at (codes "help") refl (no_valued (codes "help") (refl, (refl, (refl, (refl, (refl, (refl, tt))))))) f parts end known put rows
+    (flag_at (codes "help") refl (no_valued (codes "help") (refl, (refl, (refl, (refl, (refl, (refl, (refl, tt)))))))) f parts end known put rows
     ∙ help_read (has_flag (codes "help") parts)) in
     let version : o.version ≡ has_flag (codes "version") parts = found.version (has_flag (codes "version") parts)
-    (flag_at (codes "version") refl (no_valued (codes "version") (refl, (refl, (refl, (refl, (refl, (refl, tt))))))) f parts end known put rows
+    (flag_at (codes "version") refl (no_valued (codes "version") (refl, (refl, (refl, (refl, (refl, (refl, (refl, tt)))))))) f parts end known put rows
     ∙ version_read (has_flag (codes "version") parts)) in
     let files : o.files ≡ files_in parts = found.files ∙ files_found f parts end known put rows in
-    same_made _ _ _ _ _ _ _ _ _ _ _ _ _ _ _ _ _ _ _ _ _ _ _ _ _ _ sp_file iso_file define jobs generate functions witnesses in_place check quiet help version
-    files
+    same_made _ _ _ _ _ _ _ _ _ _ _ _ _ _ _ _ _ _ _ _ _ _ _ _ _ _ _ _ sp_file iso_file define jobs generate functions unread
+    witnesses in_place check quiet help version files
 
 no_names : (name : Text) → bytes_eq (codes "FILE") name ≡ false → false ≡ false
 no_names name h = refl

@@ -2,6 +2,7 @@
 use Rattle.std.specs.Prelude.{◌≡◌, [], ◌∷◌, true, false, Some, None, refl, codes}
 use Rattle.std.specs.Char.{encode_utf8}
 use Rattle.std.specs.Str.{chars, is_utf8}
+use Rattle.run_choices.specs.declared.unread.Unread.TheVariants as unread
 use Rattle.run_words.specs.Options.{options_of}
 use Rattle.run_words.specs.Orders.{Apply, Generate, OnFiles, OnText, Say, jobs_of, order_of, ordered, working}
 use Rattle.run_words.specs.declared.order.Saying.TheVariants as saying
@@ -11,7 +12,7 @@ use Rattle.run_words.specs.declared.fault.WordFault.TheVariants.{NotText, Stands
 use Rattle.run_words.specs.OptionNames.{is_near, meant_by}
 use Rattle.run_words.specs.Faults.{fault_from, options_fault, word_fault}
 use Rattle.run_words.specs.Parts.{Valued, Flag, File, parts_from, parts_of}
-use Rattle.run_words.specs.Values.{count_in, names_in, seed_in}
+use Rattle.run_words.specs.Values.{count_in, names_in, seed_in, unread_in}
 
 -- a value follows `=` or is the next word; words that aren't options are files
 both_forms : parts_of (codes "k.c" ∷ codes "--sp-file" ∷ codes "p" ∷ codes "--jobs=2" ∷ codes "--in-place" ∷ [])
@@ -70,6 +71,16 @@ comma_last = refl
 keyword : names_in (codes "a,if") ≡ None
 keyword = refl
 
+-- a choice is written out, in small letters
+needed_only : unread_in (codes "needed") ≡ Some unread.Needed
+needed_only = refl
+
+part_of_a_choice : unread_in (codes "need") ≡ None
+part_of_a_choice = refl
+
+large_letters : unread_in (codes "None") ≡ None
+large_letters = refl
+
 -- ---- options together
 
 twice : options_of (codes "--jobs=1" ∷ codes "k.c" ∷ codes "--jobs" ∷ codes "1" ∷ []) ≡ None
@@ -77,7 +88,8 @@ unfolding options_of parts_from
 twice = refl
 
 a_file : order_of (codes "k.c" ∷ codes "--sp-file=p" ∷ codes "--witnesses" ∷ [])
-    ≡ Some (Apply (codes "p") None [] (OnFiles (record { witnesses = true; in_place = false; check = false; quiet = false }) (codes "k.c" ∷ [])))
+    ≡ Some (Apply (codes "p") None [] (OnFiles (record { witnesses = true; in_place = false; check = false; quiet = false; unread = unread.All })
+    (codes "k.c" ∷ [])))
 unfolding order_of ordered working options_of parts_from is_utf8 chars encode_utf8
 a_file = refl
 
@@ -91,7 +103,7 @@ unfolding order_of ordered working options_of parts_from is_utf8 chars encode_ut
 empty_value = refl
 
 empty_word : order_of (codes "--sp-file=p" ∷ [] ∷ [])
-    ≡ Some (Apply (codes "p") None [] (OnFiles (record { witnesses = false; in_place = false; check = false; quiet = false }) ([] ∷ [])))
+    ≡ Some (Apply (codes "p") None [] (OnFiles (record { witnesses = false; in_place = false; check = false; quiet = false; unread = unread.All }) ([] ∷ [])))
 unfolding order_of ordered working options_of parts_from is_utf8 chars encode_utf8
 empty_word = refl
 
@@ -105,7 +117,7 @@ unfolding order_of ordered working options_of parts_from is_utf8 chars encode_ut
 jobs_of_a_text = refl
 
 a_patch_on_a_text : order_of (codes "--generate=1" ∷ codes "--functions=2" ∷ codes "--jobs=3" ∷ codes "--sp-file=p" ∷ []) ≡ Some (Apply
-    (codes "p") None [] (OnText 1 2 false))
+    (codes "p") None [] (OnText 1 2 false unread.All))
 unfolding order_of ordered working options_of parts_from is_utf8 chars encode_utf8
 a_patch_on_a_text = refl
 
@@ -113,7 +125,8 @@ a_patch_on_a_text = refl
 
 -- a report is printed where there is one, and the status says whether something was found
 checked_report : order_of (codes "--check" ∷ codes "--sp-file=p" ∷ codes "--witnesses" ∷ codes "k.c" ∷ [])
-    ≡ Some (Apply (codes "p") None [] (OnFiles (record { witnesses = true; in_place = false; check = true; quiet = false }) (codes "k.c" ∷ [])))
+    ≡ Some (Apply (codes "p") None [] (OnFiles (record { witnesses = true; in_place = false; check = true; quiet = false; unread = unread.All })
+    (codes "k.c" ∷ [])))
 unfolding order_of ordered working options_of parts_from is_utf8 chars encode_utf8
 checked_report = refl
 
@@ -127,19 +140,42 @@ unfolding order_of ordered working options_of parts_from is_utf8 chars encode_ut
 checked_text = refl
 
 stored_quietly : order_of (codes "--quiet" ∷ codes "--sp-file=p" ∷ codes "--in-place" ∷ codes "k.c" ∷ [])
-    ≡ Some (Apply (codes "p") None [] (OnFiles (record { witnesses = false; in_place = true; check = false; quiet = true }) (codes "k.c" ∷ [])))
+    ≡ Some (Apply (codes "p") None [] (OnFiles (record { witnesses = false; in_place = true; check = false; quiet = true; unread = unread.All })
+    (codes "k.c" ∷ [])))
 unfolding order_of ordered working options_of parts_from is_utf8 chars encode_utf8
 stored_quietly = refl
 
 -- a generated text alone has no further lines to leave out
 quiet_on_a_text : order_of (codes "--generate=1" ∷ codes "--functions=2" ∷ codes "--quiet" ∷ codes "--sp-file=p" ∷ []) ≡ Some (Apply
-    (codes "p") None [] (OnText 1 2 true))
+    (codes "p") None [] (OnText 1 2 true unread.All))
 unfolding order_of ordered working options_of parts_from is_utf8 chars encode_utf8
 quiet_on_a_text = refl
 
 quiet_text : order_of (codes "--generate=1" ∷ codes "--functions=2" ∷ codes "--quiet" ∷ []) ≡ None
 unfolding order_of ordered working options_of parts_from is_utf8 chars encode_utf8
 quiet_text = refl
+
+-- ---- which items that can't be read are told of
+
+none_told : order_of (codes "--sp-file=p" ∷ codes "--unread" ∷ codes "none" ∷ codes "k.c" ∷ [])
+    ≡ Some (Apply (codes "p") None [] (OnFiles (record { witnesses = false; in_place = false; check = false; quiet = false; unread = unread.None })
+    (codes "k.c" ∷ [])))
+unfolding order_of ordered working options_of parts_from is_utf8 chars encode_utf8
+none_told = refl
+
+needed_on_a_text : order_of (codes "--generate=1" ∷ codes "--functions=2" ∷ codes "--unread=needed" ∷ codes "--sp-file=p" ∷ [])
+    ≡ Some (Apply (codes "p") None [] (OnText 1 2 false unread.Needed))
+unfolding order_of ordered working options_of parts_from is_utf8 chars encode_utf8
+needed_on_a_text = refl
+
+-- a text alone is never read, and none of its items is told of
+unread_text : order_of (codes "--generate=1" ∷ codes "--functions=2" ∷ codes "--unread=all" ∷ []) ≡ None
+unfolding order_of ordered working options_of parts_from is_utf8 chars encode_utf8
+unread_text = refl
+
+some_told : order_of (codes "--sp-file=p" ∷ codes "--unread=some" ∷ codes "k.c" ∷ []) ≡ None
+unfolding order_of ordered working options_of parts_from is_utf8 chars encode_utf8
+some_told = refl
 
 -- ---- jobs
 
@@ -232,6 +268,27 @@ generate_and_check = refl
 quiet_needs_a_patch : word_fault (codes "--generate=1" ∷ codes "--functions=1" ∷ codes "--quiet" ∷ []) ≡ Some (Needed need.Patch)
 unfolding word_fault fault_from options_fault options_of parts_from is_utf8 chars encode_utf8
 quiet_needs_a_patch = refl
+
+unread_needs_a_patch : word_fault (codes "--generate=1" ∷ codes "--functions=1" ∷ codes "--unread=none" ∷ []) ≡ Some (Needed need.Patch)
+unfolding word_fault fault_from options_fault options_of parts_from is_utf8 chars encode_utf8
+unread_needs_a_patch = refl
+
+unread_needs_its_value : word_fault (codes "--sp-file=p" ∷ codes "k.c" ∷ codes "--unread" ∷ []) ≡ Some (ValueAbsent (codes "--unread"))
+unfolding word_fault fault_from options_fault options_of parts_from is_utf8 chars encode_utf8
+unread_needs_its_value = refl
+
+bad_choice : word_fault (codes "--sp-file=p" ∷ codes "--unread=" ∷ codes "k.c" ∷ []) ≡ Some (BadValue name.Unread [])
+unfolding word_fault fault_from options_fault options_of parts_from is_utf8 chars encode_utf8
+bad_choice = refl
+
+-- the values of options are looked at in one order, however they stand
+functions_before_unread : word_fault (codes "--unread=some" ∷ codes "--functions=0" ∷ []) ≡ Some (BadValue name.Functions (codes "0"))
+unfolding word_fault fault_from options_fault options_of parts_from is_utf8 chars encode_utf8
+functions_before_unread = refl
+
+twice_chosen : word_fault (codes "--unread=all" ∷ codes "--unread" ∷ codes "all" ∷ []) ≡ Some (StandsTwice (codes "--unread"))
+unfolding word_fault fault_from options_fault options_of parts_from is_utf8 chars encode_utf8
+twice_chosen = refl
 
 -- words are counted from 1, and one that isn't UTF-8 is told first
 second_word : word_fault (codes "--bogus" ∷ (255 ∷ []) ∷ []) ≡ Some (NotText 2)

@@ -18,3 +18,4 @@ pub mod Told
 pub mod Examples
 pub mod JobLaws
 pub mod FlagLaws
+pub mod UnreadLaws

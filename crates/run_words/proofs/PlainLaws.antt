@@ -1,11 +1,12 @@
 -- Without `--generate` options have a fault exactly where they ask for nothing.
 use Rattle.std.proofs.Common.{◌≡◌, ◌∙◌, refl, sym, ap, ℕ, Bool, true, false, not, ◌&&◌, ◌||◌, cond, List, [], ◌∷◌, Option, Some, None, is_some}
 use Rattle.std.specs.Option.{option_map_or}
-use Rattle.run_words.specs.declared.option_name.OptionName.TheVariants.{Check, Define, Jobs, Generate, Functions, InPlace}
+use Rattle.run_words.specs.declared.option_name.OptionName.TheVariants.{Check, Define, Generate, Functions, InPlace}
 use Rattle.run_words.specs.declared.fault.WordFault.TheVariants.{Apart, ApartFromFiles}
 use Rattle.run_words.specs.Options.{Options}
 use Rattle.run_words.specs.Values.{names_in}
-use Rattle.run_words.specs.Orders.{are_filled, defined_in, editing, generating, has_files, has_jobs, is_about_patches, stores_checked, working}
+use Rattle.run_words.specs.Orders.{are_filled, defined_in, editing, generating, has_files, has_jobs, has_unread, is_about_patches, stores_checked}
+use Rattle.run_words.specs.Orders.{working}
 use Rattle.run_words.specs.OptionNames.{first_of}
 use Rattle.run_words.specs.Faults.{apart_fault, edit_faults, file_faults, need_fault, value_fault}
 use Rattle.run_words.proofs.ValueLaws.{bad, both_or, fine, or_last, some_cond, some_first, some_map, some_need, some_then, some_three}
@@ -78,19 +79,20 @@ pub plain_law : (o : Options) → are_filled o ≡ true → o.generate ≡ None
     → is_some (first_of (value_fault o ∷ need_fault o ∷ apart_fault o ∷ [])) ≡ not (is_some (working o))
 unfolding working
 plain_law o filled none =
-    let value : is_some (value_fault o) ≡ (bad Define o.define || (bad Jobs o.jobs || (bad Functions o.functions || false))) =
-    values_left o filled ∙ ap (λ g. bad Define o.define || (bad Jobs o.jobs || (bad Generate g || (bad Functions o.functions || false)))) none in
+    let fine_values = has_jobs o && has_unread o in
+    let value : is_some (value_fault o) ≡ (bad Define o.define || (not fine_values || (bad Functions o.functions || false))) =
+    values_left o filled ∙ ap (λ g. bad Define o.define || (not fine_values || (bad Generate g || (bad Functions o.functions || false)))) none in
     let need : is_some (need_fault o) ≡ (not (is_some o.sp_file) || (not (has_files o) || false)) = some_need o
     ∙ (ap (λ g. (not (is_some o.sp_file) && (not (is_some g) || is_about_patches o)) || ((not (has_files o) && not (is_some g))
     || ((not (is_some o.functions) && is_some g) || false))) none
     ∙ plain_need (is_some o.sp_file) (has_files o) (is_some o.functions)) in
     let apart : is_some (apart_fault o) ≡ (is_some o.functions || (stores_checked o || false)) =
     ap (λ g. is_some (cond (is_some g) (first_of (file_faults o)) (first_of (edit_faults o)))) none ∙ some_edit o in
-    let asked : is_some (working o) ≡ (has_jobs o && ((has_files o && not (is_some o.functions) && not (stores_checked o))
+    let asked : is_some (working o) ≡ (fine_values && ((has_files o && not (is_some o.functions) && not (stores_checked o))
     && (is_some o.sp_file && fine Define o.define))) =
-    some_cond (has_jobs o) _ ∙ ap (λ b. has_jobs o && b) (ap (λ g. is_some (option_map_or (generating o) g (editing o))) none ∙ some_editing o) in
+    some_cond fine_values _ ∙ ap (λ b. fine_values && b) (ap (λ g. is_some (option_map_or (generating o) g (editing o))) none ∙ some_editing o) in
     some_three o ∙ (ap (λ b. b || (is_some (need_fault o) || (is_some (apart_fault o) || false))) value
-    ∙ (ap (λ b. (bad Define o.define || (bad Jobs o.jobs || (bad Functions o.functions || false))) || (b || (is_some (apart_fault o) || false))) need
-    ∙ (ap (λ b. (bad Define o.define || (bad Jobs o.jobs || (bad Functions o.functions || false))) || ((not (is_some o.sp_file) || (not (has_files o) || false))
+    ∙ (ap (λ b. (bad Define o.define || (not fine_values || (bad Functions o.functions || false))) || (b || (is_some (apart_fault o) || false))) need
+    ∙ (ap (λ b. (bad Define o.define || (not fine_values || (bad Functions o.functions || false))) || ((not (is_some o.sp_file) || (not (has_files o) || false))
     || (b || false))) apart
-    ∙ (plain_by (fine Define o.define) (has_jobs o) (is_some o.sp_file) (has_files o) (stores_checked o) o.functions ∙ ap not (sym asked)))))
+    ∙ (plain_by (fine Define o.define) fine_values (is_some o.sp_file) (has_files o) (stores_checked o) o.functions ∙ ap not (sym asked)))))

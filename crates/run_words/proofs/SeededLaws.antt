@@ -3,28 +3,28 @@ use Rattle.std.proofs.Common.{◌≡◌, ◌∙◌, refl, sym, ap, ℕ, Bool, tr
 use Rattle.std.proofs.Common.{option_and_then}
 use Rattle.std.specs.Option.{option_map_or}
 use Rattle.std.proofs.lemmas.Bool.{or_parts}
-use Rattle.run_words.specs.declared.option_name.OptionName.TheVariants.{Define, Jobs, Generate, Functions, IsoFile, Witnesses, InPlace, Check}
+use Rattle.run_choices.specs.declared.unread.Unread.{Unread}
+use Rattle.run_words.specs.declared.option_name.OptionName.TheVariants.{Define, Generate, Functions, IsoFile, Witnesses, InPlace, Check}
 use Rattle.run_words.specs.declared.fault.WordFault.TheVariants.{Apart, ApartFromFiles}
 use Rattle.run_words.specs.Options.{Options}
 use Rattle.run_words.specs.Values.{seed_in, count_in}
 use Rattle.run_words.specs.Orders.{Order, Apply, OnText, Generate as AskedGenerate, are_filled, editing, generating, has_files, has_jobs}
-use Rattle.run_words.specs.Orders.{is_about_files, is_about_patches}
-use Rattle.run_words.specs.Orders.{most_functions, on_text, working}
+use Rattle.run_words.specs.Orders.{has_unread, is_about_files, is_about_patches, most_functions, on_text, told_in, working}
 use Rattle.run_words.specs.OptionNames.{first_of}
 use Rattle.run_words.specs.Faults.{apart_fault, edit_faults, file_faults, need_fault, value_fault}
 use Rattle.run_words.proofs.ValueLaws.{bad, both_or, fine, none_fine, or_last, some_cond, some_first, some_need, some_then}
 use Rattle.run_words.proofs.ValueLaws.{some_three, some_told, some_unless, values_left}
 
-by_patch : (patch : Option (List ℕ)) (quiet about : Bool) (seed functions : ℕ)
-    → is_some (option_map_or (λ name. Some (Apply name None [] (OnText seed functions quiet))) patch
+by_patch : (patch : Option (List ℕ)) (quiet about : Bool) (unread : Unread) (seed functions : ℕ)
+    → is_some (option_map_or (λ name. Some (Apply name None [] (OnText seed functions quiet unread))) patch
     (cond about None (Some (AskedGenerate seed functions))))
     ≡ not (not (is_some patch) && about)
-by_patch (Some name) quiet about seed functions = refl
-by_patch None quiet true seed functions = refl
-by_patch None quiet false seed functions = refl
+by_patch (Some name) quiet about unread seed functions = refl
+by_patch None quiet true unread seed functions = refl
+by_patch None quiet false unread seed functions = refl
 
 text_some : (o : Options) (seed functions : ℕ) → is_some (on_text o seed functions) ≡ not (not (is_some o.sp_file) && is_about_patches o)
-text_some o seed functions = by_patch o.sp_file o.quiet (is_about_patches o) seed functions
+text_some o seed functions = by_patch o.sp_file o.quiet (is_about_patches o) (told_in o) seed functions
 
 counted : (functions : Option (List ℕ)) (next : ℕ → Option Order) (b : Bool) → ((n : ℕ) → is_some (next n) ≡ b)
     → is_some (option_and_then (λ text. option_and_then next (count_in most_functions text)) functions)
@@ -136,10 +136,11 @@ pub seeded_law : (o : Options) (value : List ℕ) → are_filled o ≡ true → 
     → is_some (first_of (value_fault o ∷ need_fault o ∷ apart_fault o ∷ [])) ≡ not (is_some (working o))
 unfolding working
 seeded_law o value filled some =
+    let fine_values = has_jobs o && has_unread o in
     let patch_needed = not (is_some o.sp_file) && is_about_patches o in
     let values : is_some (value_fault o) ≡ (bad Define o.define
-    || (bad Jobs o.jobs || (not (is_some (seed_in value)) || (bad Functions o.functions || false)))) =
-    values_left o filled ∙ ap (λ g. bad Define o.define || (bad Jobs o.jobs || (bad Generate g || (bad Functions o.functions || false)))) some in
+    || (not fine_values || (not (is_some (seed_in value)) || (bad Functions o.functions || false)))) =
+    values_left o filled ∙ ap (λ g. bad Define o.define || (not fine_values || (bad Generate g || (bad Functions o.functions || false)))) some in
     let need : is_some (need_fault o) ≡ (patch_needed || (false || (not (is_some o.functions) || false))) = some_need o
     ∙ (ap (λ g. (not (is_some o.sp_file) && (not (is_some g) || is_about_patches o)) || ((not (has_files o) && not (is_some g))
     || ((not (is_some o.functions) && is_some g) || false))) some
@@ -147,13 +148,13 @@ seeded_law o value filled some =
     let apart : is_some (apart_fault o) ≡ is_about_files o =
     ap (λ g. is_some (cond (is_some g) (first_of (file_faults o)) (first_of (edit_faults o)))) some
     ∙ some_apart o in
-    let asked : is_some (working o) ≡ (has_jobs o && (not (is_about_files o) && (is_some (seed_in value)
+    let asked : is_some (working o) ≡ (fine_values && (not (is_about_files o) && (is_some (seed_in value)
     && (is_some (option_and_then (count_in most_functions) o.functions) && not patch_needed)))) =
-    some_cond (has_jobs o) _ ∙ ap (λ b. has_jobs o && b) (ap (λ g. is_some (option_map_or (generating o) g (editing o))) some ∙ some_generating o value) in
+    some_cond fine_values _ ∙ ap (λ b. fine_values && b) (ap (λ g. is_some (option_map_or (generating o) g (editing o))) some ∙ some_generating o value) in
     some_three o ∙ (ap (λ b. b || (is_some (need_fault o) || (is_some (apart_fault o) || false))) values
-    ∙ (ap (λ b. (bad Define o.define || (bad Jobs o.jobs || (not (is_some (seed_in value)) || (bad Functions o.functions || false))))
+    ∙ (ap (λ b. (bad Define o.define || (not fine_values || (not (is_some (seed_in value)) || (bad Functions o.functions || false))))
     || (b || (is_some (apart_fault o) || false))) need
-    ∙ (ap (λ b. (bad Define o.define || (bad Jobs o.jobs || (not (is_some (seed_in value)) || (bad Functions o.functions || false))))
+    ∙ (ap (λ b. (bad Define o.define || (not fine_values || (not (is_some (seed_in value)) || (bad Functions o.functions || false))))
     || ((patch_needed || (false || (not (is_some o.functions) || false))) || (b || false))) apart
-    ∙ (seeded_about (fine Define o.define) (has_jobs o) (is_some (seed_in value)) patch_needed (is_about_files o) o.functions
+    ∙ (seeded_about (fine Define o.define) fine_values (is_some (seed_in value)) patch_needed (is_about_files o) o.functions
     (about_fine o) ∙ ap not (sym asked)))))

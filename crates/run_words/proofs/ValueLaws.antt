@@ -6,13 +6,14 @@ use Rattle.std.specs.Option.{option_map_or, option_or}
 use Rattle.std.proofs.lemmas.Bool.{and_parts, cases_Bool, or_parts}
 use Rattle.std.proofs.lemmas.Bool.Decides.{leb_tells}
 use Rattle.run_words.specs.declared.option_name.OptionName.{OptionName}
-use Rattle.run_words.specs.declared.option_name.OptionName.TheVariants.{SpFile, IsoFile, Define, Jobs, Generate, Functions}
+use Rattle.run_words.specs.declared.option_name.OptionName.TheVariants.{SpFile, IsoFile, Define, Jobs, Generate, Functions, Unread}
 use Rattle.run_words.specs.declared.fault.Need.TheVariants as need
 use Rattle.run_words.specs.declared.fault.WordFault.{WordFault}
 use Rattle.run_words.specs.declared.fault.WordFault.TheVariants.{BadValue, Needed}
 use Rattle.run_words.specs.Options.{Options}
-use Rattle.run_words.specs.Values.{seed_in, count_in, names_in}
-use Rattle.run_words.specs.Orders.{are_filled, has_files, is_about_patches, is_filled, most_functions, most_jobs}
+use Rattle.run_words.specs.Values.{seed_in, count_in, names_in, unread_in}
+use Rattle.run_words.specs.Orders.{are_filled, has_files, has_jobs, has_unread, is_about_patches, is_filled, most_functions}
+use Rattle.run_words.specs.Orders.{most_jobs}
 use Rattle.run_words.specs.OptionNames.{first_of}
 use Rattle.run_words.specs.Faults.{apart_fault, bad_text, is_value, need_fault, need_faults, told_if, value_fault, value_faults}
 
@@ -61,10 +62,10 @@ both_true true b e f = f
 both_true false b e f = e
 
 some_value : (o : Options) → is_some (value_fault o) ≡ (bad SpFile o.sp_file || (bad IsoFile o.iso_file || (bad Define o.define
-    || (bad Jobs o.jobs || (bad Generate o.generate || (bad Functions o.functions || false))))))
+    || (bad Jobs o.jobs || (bad Generate o.generate || (bad Functions o.functions || (bad Unread o.unread || false)))))))
 some_value o = some_first (value_faults o) ∙ both_or (some_bad SpFile o.sp_file) (both_or (some_bad IsoFile o.iso_file)
     (both_or (some_bad Define o.define) (both_or (some_bad Jobs o.jobs) (both_or (some_bad Generate o.generate)
-    (both_or (some_bad Functions o.functions) refl)))))
+    (both_or (some_bad Functions o.functions) (both_or (some_bad Unread o.unread) refl))))))
 
 -- ---- what is a value isn't empty
 
@@ -85,6 +86,10 @@ count_filled most (b ∷ bytes) e = filled_more b bytes
 seed_filled : (text : List ℕ) → not (is_some (seed_in text)) ≡ false → is_filled (Some text) ≡ true
 seed_filled [] e = let wrong : true ≡ false = e in absurd cc
 seed_filled (b ∷ bytes) e = filled_more b bytes
+
+choice_filled : (text : List ℕ) → not (is_some (unread_in text)) ≡ false → is_filled (Some text) ≡ true
+choice_filled [] e = let wrong : true ≡ false = e in absurd cc
+choice_filled (b ∷ bytes) e = filled_more b bytes
 
 not_false : (b : Bool) → not b ≡ false → b ≡ true
 not_false true e = refl
@@ -117,7 +122,11 @@ functions_filled : (value : Option (List ℕ)) → bad Functions value ≡ false
 functions_filled None e = refl
 functions_filled (Some text) e = count_filled most_functions text e
 
--- the first two values, three, four and five aren't empty
+pub unread_filled : (value : Option (List ℕ)) → bad Unread value ≡ false → is_filled value ≡ true
+unread_filled None e = refl
+unread_filled (Some text) e = choice_filled text e
+
+-- the first two values, three, four, five and six aren't empty
 abbrev two_filled : Options → Bool
 two_filled o = is_filled o.sp_file && is_filled o.iso_file
 
@@ -130,6 +139,9 @@ four_filled o = three_filled o && is_filled o.jobs
 abbrev five_filled : Options → Bool
 five_filled o = four_filled o && is_filled o.generate
 
+abbrev six_filled : Options → Bool
+six_filled o = five_filled o && is_filled o.functions
+
 all_filled : (o : Options) → is_some (value_fault o) ≡ false → are_filled o ≡ true
 all_filled o e =
     let p1 = or_parts (bad SpFile o.sp_file) _ (sym (some_value o) ∙ e) in
@@ -138,10 +150,11 @@ all_filled o e =
     let p4 = or_parts (bad Jobs o.jobs) _ p3.1 in
     let p5 = or_parts (bad Generate o.generate) _ p4.1 in
     let p6 = or_parts (bad Functions o.functions) _ p5.1 in
-    both_true (five_filled o) (is_filled o.functions) (both_true (four_filled o) (is_filled o.generate) (both_true (three_filled o) (is_filled o.jobs)
-    (both_true (two_filled o) (is_filled o.define) (both_true (is_filled o.sp_file) (is_filled o.iso_file) (patch_filled o.sp_file p1.0)
-    (isos_filled o.iso_file p2.0)) (define_filled o.define p3.0)) (jobs_filled o.jobs p4.0)) (generate_filled o.generate p5.0))
-    (functions_filled o.functions p6.0)
+    let p7 = or_parts (bad Unread o.unread) _ p6.1 in
+    both_true (six_filled o) (is_filled o.unread) (both_true (five_filled o) (is_filled o.functions) (both_true (four_filled o) (is_filled o.generate)
+    (both_true (three_filled o) (is_filled o.jobs) (both_true (two_filled o) (is_filled o.define) (both_true (is_filled o.sp_file) (is_filled o.iso_file)
+    (patch_filled o.sp_file p1.0) (isos_filled o.iso_file p2.0)) (define_filled o.define p3.0)) (jobs_filled o.jobs p4.0))
+    (generate_filled o.generate p5.0)) (functions_filled o.functions p6.0)) (unread_filled o.unread p7.0)
 
 -- a value is empty
 pub empty_bad : (o : Options) → are_filled o ≡ false → is_some (value_fault o) ≡ true
@@ -204,17 +217,30 @@ isos_fine : (value : Option (List ℕ)) → is_filled value ≡ true → fine Is
 isos_fine None e = refl
 isos_fine (Some text) e = e
 
+-- the last of these tests and the second, in one
+last_moved : (d j g f u : Bool) → (d || (not j || (g || (f || (not u || false))))) ≡ (d || (not (j && u) || (g || (f || false))))
+last_moved true j g f u = refl
+last_moved false false g f u = refl
+last_moved false true true f true = refl
+last_moved false true true f false = refl
+last_moved false true false true true = refl
+last_moved false true false true false = refl
+last_moved false true false false true = refl
+last_moved false true false false false = refl
+
 pub values_left : (o : Options) → are_filled o ≡ true → is_some (value_fault o)
-    ≡ (bad Define o.define || (bad Jobs o.jobs || (bad Generate o.generate || (bad Functions o.functions || false))))
+    ≡ (bad Define o.define || (not (has_jobs o && has_unread o) || (bad Generate o.generate || (bad Functions o.functions || false))))
 values_left o filled =
-    let five = and_parts (five_filled o) (is_filled o.functions) filled in
+    let six = and_parts (six_filled o) (is_filled o.unread) filled in
+    let five = and_parts (five_filled o) (is_filled o.functions) six.0 in
     let four = and_parts (four_filled o) (is_filled o.generate) five.0 in
     let three = and_parts (three_filled o) (is_filled o.jobs) four.0 in
     let two = and_parts (two_filled o) (is_filled o.define) three.0 in
     let one = and_parts (is_filled o.sp_file) (is_filled o.iso_file) two.0 in
-    let rest = bad Define o.define || (bad Jobs o.jobs || (bad Generate o.generate || (bad Functions o.functions || false))) in
+    let rest = bad Define o.define || (bad Jobs o.jobs || (bad Generate o.generate || (bad Functions o.functions || (bad Unread o.unread || false)))) in
     some_value o ∙ (ap (λ (b : Bool). not b || (bad IsoFile o.iso_file || rest)) (patch_fine o.sp_file one.0)
-    ∙ ap (λ (b : Bool). not b || rest) (isos_fine o.iso_file one.1))
+    ∙ (ap (λ (b : Bool). not b || rest) (isos_fine o.iso_file one.1)
+    ∙ last_moved (bad Define o.define) (has_jobs o) (bad Generate o.generate) (bad Functions o.functions) (has_unread o)))
 
 pub some_need : (o : Options) → is_some (need_fault o) ≡ ((not (is_some o.sp_file) && (not (is_some o.generate) || is_about_patches o))
     || ((not (has_files o) && not (is_some o.generate)) || ((not (is_some o.functions) && is_some o.generate) || false)))

@@ -5,14 +5,15 @@ use Rattle.std.specs.Option.{option_or}
 use Rattle.std.specs.Str.{bytes_eq, is_utf8}
 use Rattle.c_lexer.specs.Words.{is_in}
 use Rattle.run_words.specs.declared.option_name.OptionName.{OptionName}
-use Rattle.run_words.specs.declared.option_name.OptionName.TheVariants.{SpFile, IsoFile, Define, Jobs, Generate, Functions, Witnesses, InPlace, Check}
+use Rattle.run_words.specs.declared.option_name.OptionName.TheVariants.{SpFile, IsoFile, Define, Jobs, Generate, Functions, Unread}
+use Rattle.run_words.specs.declared.option_name.OptionName.TheVariants.{Witnesses, InPlace, Check}
 use Rattle.run_words.specs.declared.fault.Need.TheVariants as need
 use Rattle.run_words.specs.declared.fault.WordFault.{WordFault}
 use Rattle.run_words.specs.declared.fault.WordFault.TheVariants.{NotText, NoSuchOption, ValueAbsent, TakesNone, StandsTwice}
 use Rattle.run_words.specs.declared.fault.WordFault.TheVariants.{BadValue, Needed, Apart, ApartFromFiles}
 use Rattle.run_words.specs.Parts.{Word, End, Awaits, Has, Bare, Plain, Unknown, is_option, word_of, flag_options}
 use Rattle.run_words.specs.Options.{Options, options_of}
-use Rattle.run_words.specs.Values.{seed_in, count_in, names_in}
+use Rattle.run_words.specs.Values.{seed_in, count_in, names_in, unread_in}
 use Rattle.run_words.specs.Orders.{is_filled, are_filled, asks_text, has_files, is_about_patches, stores_checked, most_jobs, most_functions}
 use Rattle.run_words.specs.OptionNames.{dashed, first_of, written, meant_by}
 
@@ -55,6 +56,7 @@ is_value Define text = is_some (names_in text)
 is_value Jobs text = is_some (count_in most_jobs text)
 is_value Generate text = is_some (seed_in text)
 is_value Functions text = is_some (count_in most_functions text)
+is_value Unread text = is_some (unread_in text)
 is_value option text = is_filled (Some text)
 
 -- the fault of this option's value, if it is given
@@ -63,7 +65,7 @@ bad_text option value = option_and_then (λ text. cond (is_value option text) No
 
 abbrev pub value_faults : Options → List (Option WordFault)
 value_faults o = bad_text SpFile o.sp_file ∷ bad_text IsoFile o.iso_file ∷ bad_text Define o.define ∷ bad_text Jobs o.jobs
-    ∷ bad_text Generate o.generate ∷ bad_text Functions o.functions ∷ []
+    ∷ bad_text Generate o.generate ∷ bad_text Functions o.functions ∷ bad_text Unread o.unread ∷ []
 
 -- the first value that is none for its option
 abbrev pub value_fault : Options → Option WordFault
@@ -72,7 +74,8 @@ value_fault o = first_of (value_faults o)
 abbrev pub told_if : Bool → WordFault → Option WordFault
 told_if holds fault = cond holds (Some fault) None
 
--- a patch is needed without `--generate`, and for `--jobs` and `--quiet`; a file without `--generate`; and the number of functions with it
+-- a patch is needed without `--generate`, and for `--jobs`, `--quiet` and `--unread`; a file without `--generate`; and the number
+-- of functions with it
 abbrev pub lacks_patch : Options → Bool
 lacks_patch o = not (is_some o.sp_file) && (not (is_some o.generate) || is_about_patches o)
 

@@ -12,6 +12,7 @@ pub mod Shown
 pub mod Forms
 -- For internal use: the command as clap represents it.
 pub mod Commands
--- What job_laws and flag_laws define.
+-- What job_laws, flag_laws and unread_laws define.
 pub mod JobLaws
 pub mod FlagLaws
+pub mod UnreadLaws

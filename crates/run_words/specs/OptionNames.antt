@@ -6,7 +6,7 @@ use Rattle.std.specs.Str.{chars}
 use Rattle.strsim.specs.Edits.{levenshtein_row}
 use Rattle.c_lexer.specs.Words.{is_in}
 use Rattle.run_words.specs.declared.option_name.OptionName.{OptionName}
-use Rattle.run_words.specs.declared.option_name.OptionName.TheVariants.{SpFile, IsoFile, Define, Jobs, Generate, Functions}
+use Rattle.run_words.specs.declared.option_name.OptionName.TheVariants.{SpFile, IsoFile, Define, Jobs, Generate, Functions, Unread}
 use Rattle.run_words.specs.declared.option_name.OptionName.TheVariants.{Witnesses, InPlace, Check, Quiet, Help, Version}
 use Rattle.run_words.specs.Parts.{name_part}
 
@@ -17,6 +17,7 @@ option_text Define = codes "--define"
 option_text Jobs = codes "--jobs"
 option_text Generate = codes "--generate"
 option_text Functions = codes "--functions"
+option_text Unread = codes "--unread"
 option_text Witnesses = codes "--witnesses"
 option_text InPlace = codes "--in-place"
 option_text Check = codes "--check"
@@ -26,7 +27,8 @@ option_text Version = codes "--version"
 
 -- those that take a value, and then those that take none
 abbrev pub all_options : List OptionName
-all_options = SpFile ∷ IsoFile ∷ Define ∷ Jobs ∷ Generate ∷ Functions ∷ Witnesses ∷ InPlace ∷ Check ∷ Quiet ∷ Help ∷ Version ∷ []
+all_options = SpFile ∷ IsoFile ∷ Define ∷ Jobs ∷ Generate ∷ Functions ∷ Unread ∷ Witnesses ∷ InPlace ∷ Check ∷ Quiet ∷ Help
+    ∷ Version ∷ []
 
 -- the first of these that there is
 abbrev pub first_of : {X : Type 0} → List (Option X) → Option X

@@ -11,6 +11,7 @@ pub record Options : Type 0 where
   pub jobs : Option (List ℕ)
   pub generate : Option (List ℕ)
   pub functions : Option (List ℕ)
+  pub unread : Option (List ℕ)
   pub witnesses : Bool
   pub in_place : Bool
   pub check : Bool
@@ -55,6 +56,7 @@ collected parts = record {
   jobs = value_of (codes "jobs") parts;
   generate = value_of (codes "generate") parts;
   functions = value_of (codes "functions") parts;
+  unread = value_of (codes "unread") parts;
   witnesses = has_flag (codes "witnesses") parts;
   in_place = has_flag (codes "in-place") parts;
   check = has_flag (codes "check") parts;

@@ -3,18 +3,21 @@ use Rattle.std.specs.Prelude.{ℕ, ◌&&◌, ◌||◌, Bool, true, not, cond, na
 use Rattle.std.specs.List.{list_all}
 use Rattle.std.specs.Str.{is_utf8}
 use Rattle.std.specs.Option.{option_map_or}
+use Rattle.run_choices.specs.declared.unread.Unread.{Unread}
+use Rattle.run_choices.specs.declared.unread.Unread.TheVariants as unread
 use Rattle.run_words.specs.declared.order.Mode.{Mode}
 use Rattle.run_words.specs.declared.order.Saying.{Saying}
 use Rattle.run_words.specs.declared.order.Saying.TheVariants as saying
 use Rattle.run_words.specs.Options.{Options, options_of}
-use Rattle.run_words.specs.Values.{seed_in, count_in, decimal_value, names_in}
+use Rattle.run_words.specs.Values.{seed_in, count_in, decimal_value, names_in, unread_in}
 
 -- what a patch is applied to
 pub data Target : Type 0 where
   -- files, in this order
   OnFiles : (mode : Mode) (names : List (List ℕ)) → Target
-  -- the text that is generated from this seed, with this many functions; whether further lines are left out
-  OnText : (seed functions : ℕ) (quiet : Bool) → Target
+  -- the text that is generated from this seed, with this many functions; whether further lines are left out, and which items
+  -- that can't be read are told of
+  OnText : (seed functions : ℕ) (quiet : Bool) (unread : Unread) → Target
 
 pub data Order : Type 0 where
   -- the patch of this name, under the isomorphisms of this name, with these virtual names, is applied
@@ -27,7 +30,12 @@ pub data Order : Type 0 where
 -- the lines that say more are left out
 abbrev pub is_quiet : Target → Bool
 is_quiet (OnFiles mode names) = mode.quiet
-is_quiet (OnText seed functions quiet) = quiet
+is_quiet (OnText seed functions quiet unread) = quiet
+
+-- which items that can't be read are told of
+abbrev pub unread_of : Target → Unread
+unread_of (OnFiles mode names) = mode.unread
+unread_of (OnText seed functions quiet unread) = unread
 
 -- ---- values
 
@@ -43,6 +51,7 @@ is_filled value = option_map_or (λ text. nat_le 1 (length text)) value true
 
 abbrev pub are_filled : Options → Bool
 are_filled o = is_filled o.sp_file && is_filled o.iso_file && is_filled o.define && is_filled o.jobs && is_filled o.generate && is_filled o.functions
+    && is_filled o.unread
 
 -- `--jobs` has a valid number of jobs, if it is given
 abbrev pub has_jobs : Options → Bool
@@ -51,6 +60,14 @@ has_jobs o = option_map_or (λ value. is_some (count_in most_jobs value)) o.jobs
 -- the maximum number of concurrent jobs: the number that `--jobs` has, or one if it isn't given
 abbrev pub jobs_in : Options → ℕ
 jobs_in o = option_map_or decimal_value o.jobs 1
+
+-- `--unread` has one of its values, if it is given
+abbrev pub has_unread : Options → Bool
+has_unread o = option_map_or (λ value. is_some (unread_in value)) o.unread true
+
+-- which items that can't be read are told of: those that `--unread` says, or all if it isn't given
+abbrev pub told_in : Options → Unread
+told_in o = option_map_or (λ told. told) (option_and_then unread_in o.unread) unread.All
 
 -- the names that are defined; none if the option isn't given
 abbrev pub defined_in : Options → Option (List (List ℕ))
@@ -62,7 +79,7 @@ abbrev pub has_files : Options → Bool
 has_files o = nat_le 1 (length o.files)
 
 abbrev pub mode_in : Options → Mode
-mode_in o = record { witnesses = o.witnesses; in_place = o.in_place; check = o.check; quiet = o.quiet }
+mode_in o = record { witnesses = o.witnesses; in_place = o.in_place; check = o.check; quiet = o.quiet; unread = told_in o }
 
 -- something is given that is only allowed with files
 abbrev pub is_about_files : Options → Bool
@@ -74,7 +91,7 @@ stores_checked o = o.check && o.in_place
 
 -- something is given that is only allowed with a patch
 abbrev pub is_about_patches : Options → Bool
-is_about_patches o = is_some o.jobs || o.quiet
+is_about_patches o = is_some o.jobs || o.quiet || is_some o.unread
 
 -- without `--generate`: a patch and a file are required
 abbrev pub editing : Options → Option Order
@@ -83,7 +100,7 @@ editing o = cond (has_files o && not (is_some o.functions) && not (stores_checke
 
 -- with `--generate`: the text is printed, or a patch is applied to it
 abbrev pub on_text : Options → ℕ → ℕ → Option Order
-on_text o seed functions = option_map_or (λ patch. Some (Apply patch None [] (OnText seed functions o.quiet))) o.sp_file
+on_text o seed functions = option_map_or (λ patch. Some (Apply patch None [] (OnText seed functions o.quiet (told_in o)))) o.sp_file
     (cond (is_about_patches o) None (Some (Generate seed functions)))
 
 abbrev pub generating : Options → List ℕ → Option Order
@@ -93,7 +110,7 @@ generating o value = cond (is_about_files o) None
 
 -- without `--help` and `--version`
 unfoldable pub working : Options → Option Order
-working o = cond (has_jobs o) (option_map_or (generating o) o.generate (editing o)) None
+working o = cond (has_jobs o && has_unread o) (option_map_or (generating o) o.generate (editing o)) None
 
 -- a text about the program is asked for
 abbrev pub asks_text : Options → Bool

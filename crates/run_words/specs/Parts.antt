@@ -29,7 +29,8 @@ pub data Word : Type 0 where
   Unknown : Word
 
 abbrev pub valued_options : List (List ℕ)
-valued_options = codes "sp-file" ∷ codes "iso-file" ∷ codes "define" ∷ codes "jobs" ∷ codes "generate" ∷ codes "functions" ∷ []
+valued_options = codes "sp-file" ∷ codes "iso-file" ∷ codes "define" ∷ codes "jobs" ∷ codes "generate" ∷ codes "functions"
+    ∷ codes "unread" ∷ []
 
 abbrev pub flag_options : List (List ℕ)
 flag_options = codes "witnesses" ∷ codes "in-place" ∷ codes "check" ∷ codes "quiet" ∷ codes "help" ∷ codes "version" ∷ []

@@ -15,7 +15,7 @@ use Rattle.run_words.specs.Orders.{Target, OnFiles, OnText, Order, Apply, Genera
 
 abbrev pub shown_target : CodeTarget → Target
 shown_target (target.Files mode names) = OnFiles mode (map (λ name. name.now) names.items)
-shown_target (target.Text seed functions quiet) = OnText seed functions quiet
+shown_target (target.Text seed functions quiet unread) = OnText seed functions quiet unread
 
 abbrev pub shown_isos : Option (Bor (List ℕ)) → Option (List ℕ)
 shown_isos isos = option_map (λ name. name.now) isos
@@ -34,7 +34,7 @@ HasJobs jobs (order.Say saying) = Unit {0}
 -- a generated text has at most 100,000 functions
 abbrev pub few_functions : CodeTarget → Type 0
 few_functions (target.Files mode names) = Unit {0}
-few_functions (target.Text seed functions quiet) = functions ≤ 100000
+few_functions (target.Text seed functions quiet unread) = functions ≤ 100000
 
 -- ---- internal to the crate
 
@@ -49,6 +49,7 @@ shown_options g = record {
   jobs = shown_value g.jobs;
   generate = shown_value g.generate;
   functions = shown_value g.functions;
+  unread = shown_value g.unread;
   witnesses = g.witnesses;
   in_place = g.in_place;
   check = g.check;
@@ -66,6 +67,7 @@ pub record IsFound (f : Found) (o : Options) : Type 0 where
   pub jobs : o.jobs ≡ first_value f (codes "jobs")
   pub generate : o.generate ≡ first_value f (codes "generate")
   pub functions : o.functions ≡ first_value f (codes "functions")
+  pub unread : o.unread ≡ first_value f (codes "unread")
   pub witnesses : (b : Bool) → one_text f (codes "witnesses") ≡ Some (bool_text b) → o.witnesses ≡ b
   pub in_place : (b : Bool) → one_text f (codes "in-place") ≡ Some (bool_text b) → o.in_place ≡ b
   pub check : (b : Bool) → one_text f (codes "check") ≡ Some (bool_text b) → o.check ≡ b

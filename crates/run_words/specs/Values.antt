@@ -1,7 +1,10 @@
 -- The values of options.
-use Rattle.std.specs.Prelude.{ℕ, ◌==◌, ◌&&◌, ◌+◌, ◌*◌, ◌-◌, ◌^◌, Bool, false, not, cond, nat_le, nat_lt, List, [], ◌∷◌, length, Option, None, Some}
+use Rattle.std.specs.Prelude.{ℕ, ◌==◌, ◌&&◌, ◌+◌, ◌*◌, ◌-◌, ◌^◌, Bool, false, not, cond, nat_le, nat_lt, List, [], ◌∷◌, length, Option, None, Some, codes}
 use Rattle.std.specs.List.{list_all}
+use Rattle.std.specs.Str.{bytes_eq}
 use Rattle.c_lexer.specs.Words.{is_letter, is_digit, is_word_byte, is_keyword}
+use Rattle.run_choices.specs.declared.unread.Unread.{Unread}
+use Rattle.run_choices.specs.declared.unread.Unread.TheVariants as unread
 
 -- ---- numbers
 
@@ -29,6 +32,14 @@ begins_with_zero (b ∷ bytes) = b == 48
 abbrev pub count_in : ℕ → List ℕ → Option ℕ
 count_in most text = cond (nat_le 1 (length text) && list_all is_digit text && not (begins_with_zero text) && nat_le (decimal_value text) most)
     (Some (decimal_value text)) None
+
+-- ---- choices
+
+-- which of the items that can't be read are told of
+abbrev pub unread_in : List ℕ → Option Unread
+unread_in text = cond (bytes_eq text (codes "all")) (Some unread.All)
+    (cond (bytes_eq text (codes "needed")) (Some unread.Needed)
+    (cond (bytes_eq text (codes "none")) (Some unread.None) None))
 
 -- ---- names
 

@@ -11,7 +11,7 @@ ghost use Rattle.run_words.specs.declared.fault.WordFault.TheVariants as fault;
 use crate::fault::{Need, WordFault};
 use crate::option_name::{OptionName, meant_by};
 use crate::options::{Given, parse};
-use crate::values::{count, names, seed};
+use crate::values::{count, names, seed, unread};
 use crate::walk::first_fault;
 use crate::words::{
     MOST_FUNCTIONS, MOST_JOBS, are_filled, asks_text, has_files, is_about_patches, stores_checked,
@@ -51,6 +51,7 @@ fn is_value(alloc: Global, option: OptionName, text: &str) -> Result<bool, NoMem
         OptionName::Jobs => Ok(count(text, MOST_JOBS).is_some()),
         OptionName::Generate => Ok(seed(text).is_some()),
         OptionName::Functions => Ok(count(text, MOST_FUNCTIONS).is_some()),
+        OptionName::Unread => Ok(unread(text).is_some()),
         _ => Ok(!text.is_empty()),
     }
 }
@@ -82,13 +83,15 @@ fn value_fault(alloc: Global, given: &Given<'_>) -> Result<Option<WordFault>, No
     let jobs = bad_value(alloc, OptionName::Jobs, given.jobs)?;
     let generate = bad_value(alloc, OptionName::Generate, given.generate)?;
     let functions = bad_value(alloc, OptionName::Functions, given.functions)?;
+    let unread = bad_value(alloc, OptionName::Unread, given.unread)?;
     Ok(
         patch
             .or(isos)
             .or(define)
             .or(jobs)
             .or(generate)
-            .or(functions),
+            .or(functions)
+            .or(unread),
     )
 }
 

@@ -14,16 +14,18 @@
 //!
 //! - `flag_laws`: Words that differ only in `--check` and `--quiet` ask for the same, but for these.
 //! - `job_laws`: Words that differ only in their jobs ask for the same.
+//! - `unread_laws`: Words that differ only in `--unread` ask for the same, but for this.
 #![tactic(auto)]
 
 mod fault;
 mod faults;
 mod flag_laws;
 mod job_laws;
+mod lines;
 mod option_name;
 mod options;
 mod order;
-mod quiet;
+mod unread_laws;
 mod values;
 mod walk;
 mod word;
@@ -35,4 +37,5 @@ pub use flag_laws::flags_change_modes;
 pub use job_laws::jobs_leave_orders;
 pub use option_name::OptionName;
 pub use order::{Mode, Order, PatchOrder, Saying, Target};
+pub use unread_laws::unread_changes_targets;
 pub use words::{order_of, utf8_words};

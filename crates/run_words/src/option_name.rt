@@ -15,6 +15,7 @@ pub enum OptionName {
     Jobs,
     Generate,
     Functions,
+    Unread,
     Witnesses,
     InPlace,
     Check,
@@ -35,6 +36,7 @@ impl OptionName {
             OptionName::Jobs => "--jobs",
             OptionName::Generate => "--generate",
             OptionName::Functions => "--functions",
+            OptionName::Unread => "--unread",
             OptionName::Witnesses => "--witnesses",
             OptionName::InPlace => "--in-place",
             OptionName::Check => "--check",
@@ -95,6 +97,7 @@ pub fn meant_by(alloc: Global, word: &str) -> Result<Option<OptionName>, NoMemor
     let jobs = near_one(alloc, word, OptionName::Jobs)?;
     let generate = near_one(alloc, word, OptionName::Generate)?;
     let functions = near_one(alloc, word, OptionName::Functions)?;
+    let unread = near_one(alloc, word, OptionName::Unread)?;
     let witnesses = near_one(alloc, word, OptionName::Witnesses)?;
     let in_place = near_one(alloc, word, OptionName::InPlace)?;
     let check = near_one(alloc, word, OptionName::Check)?;
@@ -106,7 +109,8 @@ pub fn meant_by(alloc: Global, word: &str) -> Result<Option<OptionName>, NoMemor
         .or(define)
         .or(jobs)
         .or(generate)
-        .or(functions);
+        .or(functions)
+        .or(unread);
     Ok(
         valued
             .or(witnesses)

@@ -50,6 +50,7 @@ fn command<'a>(alloc: Global) -> Result<Command<'a>, AllocError>
         .arg(valued(alloc, "jobs"))?
         .arg(valued(alloc, "generate"))?
         .arg(valued(alloc, "functions"))?
+        .arg(valued(alloc, "unread"))?
         .arg(flag(alloc, "witnesses"))?
         .arg(flag(alloc, "in-place"))?
         .arg(flag(alloc, "check"))?
@@ -68,6 +69,7 @@ pub struct Given<'a> {
     pub jobs: Option<&'a str>,
     pub generate: Option<&'a str>,
     pub functions: Option<&'a str>,
+    pub unread: Option<&'a str>,
     pub witnesses: bool,
     pub in_place: bool,
     pub check: bool,
@@ -98,6 +100,7 @@ fn read<'a>(alloc: Global, matches: &ArgMatches<'a>) -> Result<Given<'a>, AllocE
         jobs: matches.get_str("jobs"),
         generate: matches.get_str("generate"),
         functions: matches.get_str("functions"),
+        unread: matches.get_str("unread"),
         witnesses: matches.get_flag("witnesses"),
         in_place: matches.get_flag("in-place"),
         check: matches.get_flag("check"),

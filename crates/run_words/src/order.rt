@@ -2,6 +2,7 @@
 ghost use Rattle.std.specs.Prelude.{◌≤◌};
 
 use c_terms::Text;
+use run_choices::Unread;
 
 /// How the result for an edited file is output. With none of the first three, its text is printed.
 #[derive(Clone, Copy, Debug, PartialEq, Eq)]
@@ -15,6 +16,8 @@ pub struct Mode {
     pub check: bool,
     /// The lines that say more are left out.
     pub quiet: bool,
+    /// Which of the items that can't be read are told of.
+    pub unread: Unread,
 }
 
 /// What a patch is applied to.
@@ -22,9 +25,9 @@ pub struct Mode {
 pub enum Target<'a> {
     /// Files, in this order.
     Files(Mode, Vec<&'a str>),
-    /// The text that is generated from this seed, with this many functions. The last says whether the lines that say more are
-    /// left out.
-    Text(u64, u32, bool),
+    /// The text that is generated from this seed, with this many functions. The last two say whether the lines that say more
+    /// are left out, and which of the items that can't be read are told of.
+    Text(u64, u32, bool, Unread),
 }
 
 /// A request to apply a patch.

@@ -1,10 +1,11 @@
 // The values of options.
 ghost use Rattle.std.specs.Prelude.{◌≡◌, ◌≤◌, ◌==◌, not, length, option_map, IfOk};
 ghost use Rattle.std.specs.List.{prefix_len};
-ghost use Rattle.run_words.specs.Values.{number_in, seed_in, count_in, is_c_name, names_in};
+ghost use Rattle.run_words.specs.Values.{number_in, seed_in, count_in, unread_in, is_c_name, names_in};
 
 use c_lexer::{Kind, first_piece};
 use c_terms::{NoMemory, Text};
+use run_choices::Unread;
 use std::alloc::Global;
 
 /// Returns the decimal number that the digits represent, if they are all digits and it is less than 2^64.
@@ -42,6 +43,18 @@ pub fn count(text: &str, most: u64) -> Option<u64>
     }
     let n = decimal(digits)?;
     if n <= most { Some(n) } else { None }
+}
+
+/// Parses a choice of the items that can't be read: `all`, `needed` or `none`.
+pub fn unread(text: &str) -> Option<Unread>
+    ensures { result ≡ unread_in text.now }
+{
+    match text {
+        "all" => Some(Unread::All),
+        "needed" => Some(Unread::Needed),
+        "none" => Some(Unread::None),
+        _ => None,
+    }
 }
 
 /// Whether a text is a name of C: an identifier that isn't a keyword.

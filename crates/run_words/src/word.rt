@@ -42,6 +42,7 @@ fn is_valued(name: &[u8]) -> bool
         || name == b"jobs".as_slice()
         || name == b"generate".as_slice()
         || name == b"functions".as_slice()
+        || name == b"unread".as_slice()
 }
 
 /// Whether this is the name of an option that takes no value.

@@ -9,8 +9,9 @@ ghost use Rattle.run_words.specs.Shown.{HasJobs, shown_options, shown_order, sho
 
 use crate::options::{Given, parse};
 use crate::order::{Mode, Order, PatchOrder, Saying, Target};
-use crate::values::{count, names, seed};
+use crate::values::{count, names, seed, unread};
 use c_terms::{NoMemory, Text};
+use run_choices::Unread;
 use std::alloc::Global;
 
 pub const MOST_JOBS: u64 = 64;
@@ -65,6 +66,7 @@ pub fn are_filled(given: &Given<'_>) -> bool
         && is_filled(given.jobs)
         && is_filled(given.generate)
         && is_filled(given.functions)
+        && is_filled(given.unread)
 }
 
 /// Whether the number of jobs is valid, if it is given.
@@ -74,6 +76,26 @@ fn has_jobs(given: &Given<'_>) -> bool
     match given.jobs {
         Some(value) => count(value, MOST_JOBS).is_some(),
         None => true,
+    }
+}
+
+/// Whether `--unread` has one of its values, if it is given.
+fn has_unread(given: &Given<'_>) -> bool
+    ensures { result ≡ spec.has_unread (shown_options given.now) }
+{
+    match given.unread {
+        Some(value) => unread(value).is_some(),
+        None => true,
+    }
+}
+
+/// Returns which of the items that can't be read are told of: all if nothing is said.
+fn told_in(given: &Given<'_>) -> Unread
+    ensures { result ≡ spec.told_in (shown_options given.now) }
+{
+    match given.unread {
+        Some(value) => unread(value).unwrap_or(Unread::All),
+        None => Unread::All,
     }
 }
 
@@ -141,6 +163,9 @@ fn working<'a>(alloc: Global, given: Given<'a>) -> Result<Option<Order<'a>>, NoM
     if !has_jobs(&given) {
         return Ok(None);
     }
+    if !has_unread(&given) {
+        return Ok(None);
+    }
     match given.generate {
         Some(value) => Ok(generating(alloc, &given, value)),
         None => editing(alloc, given),
@@ -177,7 +202,7 @@ pub fn stores_checked(given: &Given<'_>) -> bool
 pub fn is_about_patches(given: &Given<'_>) -> bool
     ensures { result ≡ spec.is_about_patches (shown_options given.now) }
 {
-    given.jobs.is_some() || given.quiet
+    given.jobs.is_some() || given.quiet || given.unread.is_some()
 }
 
 /// Returns what is asked for with a seed.
@@ -204,7 +229,7 @@ fn on_text<'a>(alloc: Global, given: &Given<'a>, seed: u64, functions: u32) -> O
             patch,
             isos: None,
             defined: Vec::new(alloc),
-            target: Target::Text(seed, functions, given.quiet),
+            target: Target::Text(seed, functions, given.quiet, told_in(given)),
             jobs: jobs_of(given),
         })),
         None => {
@@ -237,6 +262,7 @@ fn editing<'a>(alloc: Global, given: Given<'a>) -> Result<Option<Order<'a>>, NoM
         in_place: given.in_place,
         check: given.check,
         quiet: given.quiet,
+        unread: told_in(&given),
     };
     Ok(Some(Order::Apply(PatchOrder {
         patch,

@@ -36,7 +36,11 @@ use Rattle.smpl_notes.specs.Names.{short_names, slips_from, name_slips}
 use Rattle.smpl_notes.specs.NullTests.{or_else, tested, at_sign, test_slips}
 use Rattle.smpl_notes.specs.Notes.{sign_notes, places, note, notes}
 use Rattle.smpl_notes.specs.Sentences.{sentence}
-use Rattle.smpl_notes.specs.Told.{is_told}
+use Rattle.smpl_notes.specs.Told.{is_told, is_told_always}
+use Rattle.smpl_notes.specs.KindWords.{distance, one_at}
+use Rattle.smpl_notes.specs.Types.{lone_type, type_notes}
+use Rattle.smpl_notes.specs.declared.kind_word.KindWord.TheVariants as kind
+use Rattle.strsim.specs.Edits.{rows, next_row, cost_at}
 use Rattle.smpl_notes.proofs.FoldLemmas.{short_names-Leaf, short_names-Branch, tested-Leaf, tested-Branch}
 
 -- ---- signs
@@ -199,7 +203,66 @@ of_left = simp (tested-Leaf, tested-Branch)
 of_less : (tested (test (leaf (token.Meta meta.Expr) (codes "x") 0) (codes "<") (leaf token.Number (codes "0") 2))).test ≡ None
 of_less = simp (tested-Leaf, tested-Branch)
 
+-- ---- types
+
+abbrev mark : List ℕ → ℕ → PatchToken
+mark text at = made token.Punct text at
+
+abbrev word : List ℕ → ℕ → PatchToken
+word text at = made token.Name text at
+
+-- `typ` lacks one letter, and in `tpye` two must be replaced
+lacks_one : distance (codes "typ") (codes "type") ≡ 1
+unfolding distance rows next_row cost_at
+lacks_one = refl
+
+swapped : distance (codes "tpye") (codes "type") ≡ 2
+unfolding distance rows next_row cost_at
+swapped = refl
+
+-- three are too many: `t`
+far : (one_at 1 (codes "t") kind.Type ≡ None) × (one_at 2 (codes "t") kind.Type ≡ None)
+unfolding distance rows next_row cost_at
+far = (refl, refl)
+
+-- `expresion x, y;`, `expresion *x;` and `typ x;` have one name as their specifiers
+abbrev declaration : List PatchToken → List PatchToken
+declaration ts = word (codes "expresion") 5 ∷ ts ++ mark (codes ";") 20 ∷ []
+
+of_two_names : lone_type (declaration (word (codes "x") 15 ∷ mark (codes ",") 16 ∷ word (codes "y") 18 ∷ [])) ≡ word (codes "expresion") 5 ∷ []
+of_two_names = refl
+
+of_pointer : lone_type (declaration (mark (codes "*") 15 ∷ word (codes "x") 16 ∷ [])) ≡ word (codes "expresion") 5 ∷ []
+of_pointer = refl
+
+-- `const t x;`, `t const x;` and `struct t x;` have more
+abbrev keyword : List ℕ → ℕ → PatchToken
+keyword text at = made token.Keyword text at
+
+of_const : lone_type (keyword (codes "const") 0 ∷ word (codes "typ") 6 ∷ word (codes "x") 10 ∷ mark (codes ";") 11 ∷ []) ≡ []
+of_const = refl
+
+of_late_const : lone_type (word (codes "typ") 0 ∷ keyword (codes "const") 4 ∷ word (codes "x") 10 ∷ mark (codes ";") 11 ∷ []) ≡ []
+of_late_const = refl
+
+of_struct : lone_type (keyword (codes "struct") 0 ∷ word (codes "typ") 7 ∷ word (codes "x") 11 ∷ mark (codes ";") 12 ∷ []) ≡ []
+of_struct = refl
+
+-- each declaration is noted once, at its first token: `iterator i, j;` and then `field f;`, in the second line of a patch
+of_unread : type_notes (codes "@@\niterator i, j;field f;\n@@\n") 0 (word (codes "iterator") 3 ∷ word (codes "i") 12 ∷ mark (codes ",") 13
+    ∷ word (codes "j") 15 ∷ mark (codes ";") 16 ∷ word (codes "field") 17 ∷ word (codes "f") 23 ∷ mark (codes ";") 24 ∷ [])
+    ≡ InRule 0 (Some (record { line = 2; column = 1 })) (slip.UnreadKind (codes "iterator"))
+    ∷ InRule 0 (Some (record { line = 2; column = 15 })) (slip.UnreadKind (codes "field")) ∷ []
+of_unread = refl
+
 -- ---- what is said
+
+of_kind : sentence (InRule 0 None (slip.MisspeltKind (codes "expresion") kind.Expression)) ≡ codes "expresion is taken for a type; is it expression?"
+of_kind = refl
+
+of_unread_kind : sentence (InRule 0 None (slip.UnreadKind (codes "iterator")))
+    ≡ codes "iterator is taken for a type; it is no kind of metavariable here"
+of_unread_kind = refl
 
 of_minus : sentence (InRule 0 None slip.IndentedMinus) ≡ codes "a - that isn't in the first column is an operator"
 of_minus = refl
@@ -220,6 +283,14 @@ with_isos = refl
 without_isos : is_told false true (InRule 0 None slip.WrittenTest) ≡ true
 without_isos = refl
 
+-- a note on a type is told where something was found too
+always : is_told_always (InRule 0 None (slip.MisspeltKind (codes "expresion") kind.Expression)) ≡ true
+always = refl
+
+-- and no other
+only_if_nothing_is_found : is_told_always (InRule 0 None (slip.PlainName (codes "e"))) ≡ false
+only_if_nothing_is_found = refl
+
 -- a run that reports what it finds needs no sign
 reported : is_told false true NoSign ≡ false
 reported = refl
@@ -228,12 +299,6 @@ reported = refl
 
 abbrev bytes : List ℕ
 bytes = codes "@@\n@@\n - f(e == NULL);\n"
-
-abbrev mark : List ℕ → ℕ → PatchToken
-mark text at = made token.Punct text at
-
-abbrev word : List ℕ → ℕ → PatchToken
-word text at = made token.Name text at
 
 abbrev tokens : List PatchToken
 tokens = mark (codes "-") 7 ∷ word (codes "f") 9 ∷ mark (codes "(") 10 ∷ word (codes "e") 11 ∷ mark (codes "==") 13 ∷ word (codes "NULL") 16
@@ -274,8 +339,8 @@ places_of_tokens = places bytes (pattern_tokens [] lines)
 -- the notes, given the tokens that are found in the statement
 abbrev said : Option Token → List Token → Option Token → List Note
 said sign names test =
-    sign_notes text.rules ++ (map (note 0 places_of_tokens) ((minus_slip (pattern_tokens [] lines) sign ++ []) ++ []
-    ++ slips_from [] [] (names ++ []) ++ at_sign (or_else test None)) ++ [])
+    sign_notes text.rules ++ ((map (note 0 places_of_tokens) ((minus_slip (pattern_tokens [] lines) sign ++ []) ++ []
+    ++ slips_from [] [] (names ++ []) ++ at_sign (or_else test None)) ++ []) ++ [])
 
 of_sign : minus_of_form statement ≡ Some minus
 of_sign = simp (out-Leaf, out-Branch)
@@ -291,9 +356,9 @@ of_test = simp (tested-Leaf, tested-Branch)
 whole : notes bytes text (with_statement ∷ []) ≡ NoSign ∷ InRule 0 (Some (at_place 3 2)) slip.IndentedMinus
     ∷ InRule 0 (Some (at_place 3 6)) (slip.PlainName (codes "e")) ∷ InRule 0 (Some (at_place 3 8)) slip.WrittenTest ∷ []
 whole =
-    let said_of : Body → List Note = λ b. sign_notes text.rules ++ (map (note 0 places_of_tokens)
+    let said_of : Body → List Note = λ b. sign_notes text.rules ++ ((map (note 0 places_of_tokens)
     (minus_slips (pattern_tokens [] lines) (patterns_body b) ++ function_slips mode.Forall b ++ name_slips [] (patterns_body b)
-    ++ test_slips (patterns_body b)) ++ []) in
+    ++ test_slips (patterns_body b)) ++ []) ++ []) in
     ap (λ e. said_of (Then e End)) (element-Atom pattern)
     ∙ ap (λ t. said t (short_names statement).inside (tested statement).test) of_sign
     ∙ ap (λ ts. said (Some minus) ts (tested statement).test) of_names

@@ -3,3 +3,4 @@ pub mod ListLemmas
 pub mod FoldLemmas
 pub mod BodyLemmas
 pub mod LoopLemmas
+pub mod TypeLemmas

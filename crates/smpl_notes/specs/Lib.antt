@@ -5,5 +5,7 @@ pub mod Minus
 pub mod Functions
 pub mod Names
 pub mod NullTests
+pub mod Types
+pub mod KindWords
 pub mod Sentences
 pub mod Told

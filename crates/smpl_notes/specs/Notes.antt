@@ -20,6 +20,7 @@ use Rattle.smpl_notes.specs.Minus.{minus_slips}
 use Rattle.smpl_notes.specs.Functions.{function_slips}
 use Rattle.smpl_notes.specs.Names.{declared_words, name_slips}
 use Rattle.smpl_notes.specs.NullTests.{test_slips}
+use Rattle.smpl_notes.specs.Types.{type_notes}
 
 -- ---- signs
 
@@ -50,10 +51,11 @@ places bytes placed = map (λ p. place_of bytes p.at) placed
 abbrev pub note : ℕ → List Place → Found → Note
 note rule table f = InRule rule (slice_get table f.token) f.slip
 
--- the notes on a rule, given its number, its text, and the words of all declarations
+-- the notes on a rule, given its number, its text, and the words of all declarations: those on its body, then those on its declarations
 abbrev pub rule_notes : List ℕ → List (List ℕ) → ℕ → RuleText → Rule → List Note
 rule_notes bytes declared number x r =
-    let placed = pattern_tokens r.vars x.body in map (note number (places bytes placed)) (slips placed declared r)
+    let placed = pattern_tokens r.vars x.body in
+    map (note number (places bytes placed)) (slips placed declared r) ++ type_notes bytes number x.decls
 
 -- the notes on rules from a number on
 abbrev pub notes_from : List ℕ → List (List ℕ) → ℕ → List RuleText → List Rule → List Note

@@ -1,4 +1,4 @@
--- Which notes a run that found nothing tells.
+-- Which notes a run tells.
 use Rattle.std.specs.Prelude.{Bool, true, false, ◌&&◌, not}
 use Rattle.smpl_notes.specs.declared.note.Slip.{Slip}
 use Rattle.smpl_notes.specs.declared.note.Slip.TheVariants as slip
@@ -13,3 +13,13 @@ is_written_test _ = false
 abbrev pub is_told : (has_isos reports : Bool) → Note → Bool
 is_told has_isos reports NoSign = not reports
 is_told has_isos reports (InRule rule place s) = not (has_isos && is_written_test s)
+
+abbrev pub is_on_type : Slip → Bool
+is_on_type (slip.MisspeltKind name kind) = true
+is_on_type (slip.UnreadKind name) = true
+is_on_type _ = false
+
+-- A note on the type of a declaration is told where something was found too: the rule still finds less than it says.
+abbrev pub is_told_always : Note → Bool
+is_told_always NoSign = false
+is_told_always (InRule rule place s) = is_on_type s

@@ -2,6 +2,7 @@
 ghost use Rattle.std.specs.Prelude.{◌≡◌, ◌&&◌, not, IfOk};
 ghost use Rattle.smpl_notes.specs.Told as told;
 
+use crate::kind_word::KindWord;
 use c_terms::{NoMemory, Text};
 use std::alloc::Global;
 use text_places::Place;
@@ -20,6 +21,10 @@ pub enum Slip {
     PlainName(Text),
     /// `x == NULL`, `x != 0`: without isomorphisms, only tests that are written so are found.
     WrittenTest,
+    /// `expresion x;`: a declaration whose type has this name, which is nearly the word for this kind.
+    MisspeltKind(Text, KindWord),
+    /// `iterator x;`: a declaration whose type has this name, which is Coccinelle's word for a kind that isn't read.
+    UnreadKind(Text),
 }
 
 /// What is probably a mistake in a patch.
@@ -49,6 +54,8 @@ impl Slip {
             Slip::UntypedFunction => Ok(Slip::UntypedFunction),
             Slip::PlainName(name) => Ok(Slip::PlainName(name.copy(alloc)?)),
             Slip::WrittenTest => Ok(Slip::WrittenTest),
+            Slip::MisspeltKind(name, kind) => Ok(Slip::MisspeltKind(name.copy(alloc)?, *kind)),
+            Slip::UnreadKind(name) => Ok(Slip::UnreadKind(name.copy(alloc)?)),
         }
     }
 }
@@ -57,6 +64,23 @@ fn is_written_test(slip: &Slip) -> bool
     ensures { result ≡ told.is_written_test slip.now }
 {
     matches!(slip, Slip::WrittenTest)
+}
+
+fn is_on_type(slip: &Slip) -> bool
+    ensures { result ≡ told.is_on_type slip.now }
+{
+    matches!(slip, Slip::MisspeltKind(..) | Slip::UnreadKind(_))
+}
+
+/// Whether a note that a run tells where nothing was found is told where something was found too: one on the type of a
+/// declaration.
+pub fn is_told_always(note: &Note) -> bool
+    ensures { result ≡ told.is_told_always note.now }
+{
+    match note {
+        Note::NoSign => false,
+        Note::InRule(_, _, slip) => is_on_type(slip),
+    }
 }
 
 /// Whether a run that found nothing tells the note. `has_isos` says whether isomorphisms are named: with them, other forms of a

@@ -10,6 +10,7 @@ use crate::note::{Found, Note};
 use crate::null_tests::put_tests;
 use crate::patterns::patterns_of;
 use crate::placed::places_of;
+use crate::types::type_notes;
 use crate::words::{Words, declared_words};
 use c_terms::NoMemory;
 use smpl_lexer::{BodyLine, PatchText, RuleText};
@@ -106,10 +107,13 @@ fn rule_notes(
     ensures notes { IfOk result (λ notes. notes ≡ spec.rule_notes places.old declared.now number text.now rule.now) }
     ensures same { places.new ≡ places.old }
 {
+    let on_types = type_notes(alloc, places, number, text.decls.as_slice())?;
     let placed = pattern_tokens(alloc, rule.vars.as_slice(), text.body.as_slice())?;
     let table = places_of(alloc, places, placed.as_slice())?;
     let slips = slips_of(alloc, placed.as_slice(), declared, rule)?;
-    notes_at(alloc, number, table.as_slice(), slips.as_slice())
+    let mut notes = notes_at(alloc, number, table.as_slice(), slips.as_slice())?;
+    notes.append(on_types)?;
+    Ok(notes)
 }
 
 /// Returns the notes on the rules of a text.

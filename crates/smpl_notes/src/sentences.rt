@@ -18,6 +18,8 @@ fn fixed(slip: &Slip) -> &'static [u8]
             b"a function needs its type, as in T f(...); this is a loop of a macro",
         Slip::PlainName(_) => b" is a plain name here; is it a metavariable?",
         Slip::WrittenTest => b"without --iso-file this finds only tests that are written so",
+        Slip::MisspeltKind(..) => b" is taken for a type; is it ",
+        Slip::UnreadKind(_) => b" is taken for a type; it is no kind of metavariable here",
     }
 }
 
@@ -27,6 +29,28 @@ fn name_of(slip: &Slip) -> &[u8]
 {
     match slip {
         Slip::PlainName(name) => name.as_bytes(),
+        Slip::MisspeltKind(name, _) => name.as_bytes(),
+        Slip::UnreadKind(name) => name.as_bytes(),
+        _ => b"",
+    }
+}
+
+/// Returns the word for the kind that a slip asks about, or nothing.
+fn kind_of(slip: &Slip) -> &'static [u8]
+    ensures { result.now ≡ spec.kind_of slip.now }
+{
+    match slip {
+        Slip::MisspeltKind(_, kind) => kind.text(),
+        _ => b"",
+    }
+}
+
+/// Returns the sign with which a question about a kind ends, or nothing.
+fn end_of(slip: &Slip) -> &'static [u8]
+    ensures { result.now ≡ spec.end_of slip.now }
+{
+    match slip {
+        Slip::MisspeltKind(..) => b"?",
         _ => b"",
     }
 }
@@ -40,6 +64,8 @@ pub fn sentence(alloc: Global, note: &Note) -> Result<Vec<u8>, NoMemory>
         Note::InRule(_, _, slip) => {
             let mut text = Vec::from_slice(alloc, name_of(slip))?;
             text.extend_from_slice(fixed(slip))?;
+            text.extend_from_slice(kind_of(slip))?;
+            text.extend_from_slice(end_of(slip))?;
             Ok(text)
         }
     }

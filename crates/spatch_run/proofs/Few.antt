@@ -6,18 +6,19 @@ use Rattle.std.specs.Str.{is_utf8}
 use Rattle.std.specs.Option.{option_map_or}
 use Rattle.std.proofs.lemmas.Bool.Decides.{nat_tests}
 use Rattle.c_lexer.specs.Words.{is_digit}
+use Rattle.run_choices.specs.declared.unread.Unread.{Unread}
 use Rattle.run_words.specs.declared.order.Target.{Target as CodeTarget}
 use Rattle.run_words.specs.declared.order.Target.TheVariants as target
 use Rattle.run_words.specs.Options.{Options, options_of}
 use Rattle.run_words.specs.Values.{count_in, seed_in, decimal_value, begins_with_zero}
 use Rattle.run_words.specs.declared.order.Saying.{Saying}
-use Rattle.run_words.specs.Orders.{Target, OnFiles, OnText, Order, Apply, Generate, Say, most_functions, are_filled, asks_text, has_jobs, saying_in, working}
-use Rattle.run_words.specs.Orders.{is_about_files, is_about_patches, defined_in, editing, on_text, generating, ordered, order_of}
+use Rattle.run_words.specs.Orders.{Target, OnFiles, OnText, Order, Apply, Generate, Say, most_functions, are_filled, asks_text, has_jobs, has_unread}
+use Rattle.run_words.specs.Orders.{saying_in, told_in, working, is_about_files, is_about_patches, defined_in, editing, on_text, generating, ordered, order_of}
 use Rattle.run_words.specs.Shown.{shown_target, few_functions}
 
 abbrev HasFew : Target → Type 0
 HasFew (OnFiles mode names) = Unit {0}
-HasFew (OnText seed functions quiet) = functions ≤ 100000
+HasFew (OnText seed functions quiet unread) = functions ≤ 100000
 
 abbrev AsksFew : Option Order → Type 0
 AsksFew None = Unit {0}
@@ -44,14 +45,14 @@ few_map f (Some a) few = few a
 few_editing : (o : Options) → AsksFew (editing o)
 few_editing o = few_cond _ _ (few_then _ o.sp_file (λ patch. few_map _ (defined_in o) (λ defined. tt)))
 
-few_patch : (patch : Option (List ℕ)) (seed functions : ℕ) (quiet : Bool) (rest : Option Order) → functions ≤ 100000 → AsksFew rest
-    → AsksFew (option_map_or (λ p. Some (Apply p None [] (OnText seed functions quiet))) patch rest)
-few_patch None seed functions quiet rest few more = more
-few_patch (Some p) seed functions quiet rest few more = few
+few_patch : (patch : Option (List ℕ)) (seed functions : ℕ) (quiet : Bool) (unread : Unread) (rest : Option Order) → functions ≤ 100000 → AsksFew rest
+    → AsksFew (option_map_or (λ p. Some (Apply p None [] (OnText seed functions quiet unread))) patch rest)
+few_patch None seed functions quiet unread rest few more = more
+few_patch (Some p) seed functions quiet unread rest few more = few
 
 few_on_text : (o : Options) (seed functions : ℕ) → functions ≤ 100000 → AsksFew (on_text o seed functions)
 few_on_text o seed functions few =
-    few_patch o.sp_file seed functions o.quiet _ few (few_cond_not (is_about_patches o) (Some (Generate seed functions)) tt)
+    few_patch o.sp_file seed functions o.quiet (told_in o) _ few (few_cond_not (is_about_patches o) (Some (Generate seed functions)) tt)
 
 le_of : (a b : ℕ) → nat_le a b ≡ true → a ≤ b
 le_of a b e = grind (arith, nat_tests)
@@ -85,7 +86,7 @@ few_either o (Some value) = few_generating o value
 
 few_working : (o : Options) → AsksFew (working o)
 unfolding working
-few_working o = few_cond (has_jobs o) _ (few_either o o.generate)
+few_working o = few_cond (has_jobs o && has_unread o) _ (few_either o o.generate)
 
 few_saying : (asks : Bool) (saying : Saying) (order : Option Order) → AsksFew order → AsksFew (cond asks (Some (Say saying)) order)
 few_saying true saying order few = tt
@@ -99,13 +100,18 @@ few_asked : (words : List (List ℕ)) → AsksFew (order_of words)
 unfolding order_of
 few_asked words = few_cond (list_all is_utf8 words) _ (few_then ordered (options_of words) few_ordered_by)
 
+-- a generated text that is asked for has at most so many functions
+pub few_text : (words : List (List ℕ)) (patch : List ℕ) (isos : Option (List ℕ)) (defined : List (List ℕ)) (seed functions : ℕ) (quiet : Bool)
+    (unread : Unread) → order_of words ≡ Some (Apply patch isos defined (OnText seed functions quiet unread)) → functions ≤ 100000
+few_text words patch isos defined seed functions quiet unread is = subst AsksFew is (few_asked words)
+
 pub none_asked : (words : List (List ℕ)) → list_all is_utf8 words ≡ false → order_of words ≡ None
 unfolding order_of
 none_asked words no_text = rw no_text refl
 
 few_shown : (target : CodeTarget) → HasFew (shown_target target) → few_functions target
 few_shown (target.Files mode names) few = tt
-few_shown (target.Text seed functions quiet) few = few
+few_shown (target.Text seed functions quiet unread) few = few
 
 pub few_ordered : (words : List (List ℕ)) (patch : List ℕ) (isos : Option (List ℕ)) (defined : List (List ℕ))
     (target : CodeTarget) → order_of words ≡ Some (Apply patch isos defined (shown_target target)) → few_functions target

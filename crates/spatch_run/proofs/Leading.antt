@@ -21,6 +21,7 @@ use Rattle.iso_file.specs.Isos.{AreIsosOf, IsFileFault}
 use Rattle.iso_file.specs.Isos.IsFileFault.{too_long}
 use Rattle.run_words.specs.Orders.{Target, is_quiet}
 use Rattle.smpl_places.specs.FaultPlaces.{FaultAt}
+use Rattle.run_files.specs.declared.run_lines.notes.NoteLines.{NoteLines}
 use Rattle.run_files.specs.RunLines.Further.{placed, told_place}
 use Rattle.run_files.specs.RunLines.Patches.{patch_fault_line, iso_fault_line, iso_byte}
 use Rattle.run_files.specs.RunStages.Stages.{Stage, Work, ReadPatch, ReadIsos, EditFiles, Doing, refusing, first_load}
@@ -97,7 +98,7 @@ module _ (name : List ℕ) (isos : Option (List ℕ)) (defined : List (List ℕ)
 
 -- ---- the isomorphisms
 
-module _ (patch : Patch) (notes : List (List ℕ)) (name : List ℕ) (defined : List (List ℕ)) (target : Target) where
+module _ (patch : Patch) (notes : NoteLines) (name : List ℕ) (defined : List (List ℕ)) (target : Target) where
   pub isos_absent : (under : Option (List ℕ)) → under ≡ None → IsosFileLeads under patch notes name defined target (refusing (cannot_read name) 5)
   isos_absent under none = rw none refl
 

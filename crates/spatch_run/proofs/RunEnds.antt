@@ -1,5 +1,6 @@
 -- Lemmas of run_ends.
--- Examples; what files do, the reason of a run, its status, words with other jobs, and what `--quiet` leaves out.
+-- Examples; what files do, the reason of a run, its status, words with other jobs, what `--quiet` leaves out, and what
+-- `--unread` changes.
 mod Examples
 pub mod FileLemmas
 pub mod ReasonLemmas
@@ -10,3 +11,6 @@ pub mod QuietFiles
 pub mod QuietLemmas
 pub mod QuietWords
 pub mod NoteLemmas
+pub mod UnreadFiles
+pub mod UnreadLemmas
+pub mod UnreadWords

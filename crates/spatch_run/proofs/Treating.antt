@@ -8,7 +8,9 @@ use Rattle.run_acts.specs.Lines.{cannot_read}
 use Rattle.run_acts.specs.Loaded.{Found}
 use Rattle.run_acts.proofs.BreaksLemmas.{NoneFell-refl, NoneFell-then}
 use Rattle.smpl_patch.specs.declared.rule.Patch.{Patch}
+use Rattle.run_choices.specs.declared.unread.Unread.{Unread}
 use Rattle.run_words.specs.declared.order.Mode.{Mode}
+use Rattle.run_files.specs.declared.run_lines.notes.NoteLines.{NoteLines}
 use Rattle.run_files.specs.RunLines.Files.{too_long_line, special_line}
 use Rattle.run_files.specs.declared.tally.Tally.{Tally}
 use Rattle.run_files.specs.Treatment.{Treated, file_limit, refused_tally, refuses, IsTreatmentOf, IsFileTreatmentOf, Sums}
@@ -26,7 +28,7 @@ use Rattle.spatch_run.specs.declared.files.Turn.TheVariants as turn
 use Rattle.spatch_run.specs.Turns.{TurnsTo}
 use Rattle.spatch_run.proofs.Chain.{Goes-act, Goes-then, Goes-ends, broken, over}
 
-abbrev pub course_of : Tally → List (List ℕ) → Course
+abbrev pub course_of : Tally → NoteLines → Course
 course_of tally notes = record { tally = tally; notes = notes }
 
 -- ---- acts at hand
@@ -216,10 +218,18 @@ module _ (patch : Patch) (defined : List (List ℕ)) (mode : Mode) (course : Cou
 
 -- ---- a generated text
 
-module _ (patch : Patch) (notes : List (List ℕ)) (defined : List (List ℕ)) (seed functions : ℕ) (quiet : Bool) where
+-- the same items that can't be read are told of
+pub leads_as : (patch : Patch) (notes : NoteLines) (defined : List (List ℕ)) (seed functions : ℕ) (quiet : Bool) (one two : Unread)
+    {before now : Counts} {old new : Observed} {status : ℕ} → one ≡ two
+    → LeadsBy (TargetLeads patch notes defined (OnText seed functions quiet one)) before now old new status
+    → LeadsBy (TargetLeads patch notes defined (OnText seed functions quiet two)) before now old new status
+leads_as patch notes defined seed functions quiet one two {before = before} {now = now} {old = old} {new = new} {status = status} same leads =
+    subst (λ (u : Unread). LeadsBy (TargetLeads patch notes defined (OnText seed functions quiet u)) before now old new status) same leads
+
+module _ (patch : Patch) (notes : NoteLines) (defined : List (List ℕ)) (seed functions : ℕ) (quiet : Bool) (unread : Unread) where
   pub sum_done : (tally : Tally) {before now : Counts} {old new : Observed} {status : ℕ} → NoneFell before now
-      → status ≡ end_status tally → TreatsAll (Sums patch defined quiet generated_name (generated seed functions)) tally old new
-      → LeadsBy (TargetLeads patch notes defined (OnText seed functions quiet)) before now old new status
+      → status ≡ end_status tally → TreatsAll (Sums patch defined quiet unread generated_name (generated seed functions)) tally old new
+      → LeadsBy (TargetLeads patch notes defined (OnText seed functions quiet unread)) before now old new status
   sum_done tally {before = before} {now = now} {old = old} {new = new} {status = status} fell is all =
       let treated = all.treated in
       let s = end_status treated.tally in
@@ -229,8 +239,8 @@ module _ (patch : Patch) (notes : List (List ℕ)) (defined : List (List ℕ)) (
       (subst (λ (n : ℕ). Ends (Ending treated.acts s) before now old new n) (ap end_status all.tally_is ∙ sym is) ends)
 
   pub sum_cut : {before now : Counts} {old new : Observed} {status : ℕ} → NoneFell before now
-      → TreatsPart (Sums patch defined quiet generated_name (generated seed functions)) before now old new status
-      → LeadsBy (TargetLeads patch notes defined (OnText seed functions quiet)) before now old new status
+      → TreatsPart (Sums patch defined quiet unread generated_name (generated seed functions)) before now old new status
+      → LeadsBy (TargetLeads patch notes defined (OnText seed functions quiet unread)) before now old new status
   sum_cut fell (earlier seven none) = unfed fell seven none
   sum_cut fell (later treated treats stops) =
       let s = end_status treated.tally in

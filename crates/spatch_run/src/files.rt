@@ -16,7 +16,7 @@ use outer_io::{Shelf, Sink};
 use par_match::{Gate, Workers};
 use rule_chain::PatchRules;
 use run_acts::{Loaded, Outside, Status, Stopped, load};
-use run_files::{Tally, process_file, refuse_long, refuse_special};
+use run_files::{NoteLines, Tally, process_file, refuse_long, refuse_special};
 use run_words::Mode;
 use std::thread::Threads;
 
@@ -50,6 +50,7 @@ fn take_turn<R: Threads + Sync, S: Shelf, O: Sink, E: Sink, G: Gate>(
     name: &str,
     outside: &mut Outside<'_, '_, '_, S, O, E>,
 ) -> Result<Turn, Stopped>
+    requires unread { rules.now.unread ≡ mode.unread }
     ensures same { SamePlaces outside.old outside.new }
     ensures turned { IfOk result (λ turned. TurnsTo turned rules.now.patch.now rules.now.defined.now mode name.now
         (observed (S.holds outside.old.shelf.now) (S.stores outside.old.shelf.now) (O.written outside.old.out.now) (E.written outside.old.err.now))
@@ -83,18 +84,19 @@ fn take_turn<R: Threads + Sync, S: Shelf, O: Sink, E: Sink, G: Gate>(
 }
 
 /// Loads and processes the files in turn, up to the last one or to a name under which nothing is stored. After the last one,
-/// the lines of the notes on the patch are reported if nothing was refused and nothing found.
+/// lines of the notes on the patch are reported if nothing was refused.
 pub fn edit_files<R: Threads + Sync, S: Shelf, O: Sink, E: Sink, G: Gate>(
     workers: &Workers<'_, R, G>,
     rules: &PatchRules<'_>,
     mode: Mode,
     names: &[&str],
-    notes: &[Vec<u8>],
+    notes: &NoteLines,
     outside: &mut Outside<'_, '_, '_, S, O, E>,
 ) -> Result<Status, Stopped>
+    requires unread { rules.now.unread ≡ mode.unread }
     ensures same { SamePlaces outside.old outside.new }
     ensures ends { Ends (going [] rules.now.patch.now rules.now.defined.now mode (map (λ name. name.now) names.now)
-        (first_course (map (λ line. line.items) notes.now)))
+        (first_course notes.now))
         (counts (S.faults outside.old.shelf.now) (O.faults outside.old.out.now) (E.faults outside.old.err.now))
         (counts (S.faults outside.new.shelf.now) (O.faults outside.new.out.now) (E.faults outside.new.err.now))
         (observed (S.holds outside.old.shelf.now) (S.stores outside.old.shelf.now) (O.written outside.old.out.now) (E.written outside.old.err.now))

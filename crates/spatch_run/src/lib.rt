@@ -37,7 +37,8 @@ use par_match::Gate;
 use run_acts::Outside;
 pub use run_acts::Status;
 pub use run_ends::{
-    jobs_leave_acts, notes_come_last, quiet_leaves_lines_out, runs_are_complete, words_have_acts,
+    jobs_leave_acts, notes_come_last, quiet_leaves_lines_out, runs_are_complete,
+    unread_changes_lines, words_have_acts,
 };
 pub use run_laws::acts_are_one_list;
 use stages::{follow_words, status_of};

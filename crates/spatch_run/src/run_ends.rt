@@ -6,6 +6,8 @@
 //! - [`jobs_leave_acts`]: words that differ only in their jobs have the same acts.
 //! - [`quiet_leaves_lines_out`]: words that ask for the same with `--quiet` have the same acts, but for lines that begin with
 //!   two blanks.
+//! - [`unread_changes_lines`]: words that differ only in `--unread` have the same acts, but for lines of items that can't be
+//!   read.
 //! - [`notes_come_last`]: the notes of a run are its last acts, and its status is 0 or 8 then.
 //!
 //! The functions do nothing.
@@ -15,8 +17,10 @@ mod jobs;
 mod laws;
 mod notes;
 mod quiet;
+mod unread;
 
 pub use jobs::jobs_leave_acts;
 pub use laws::{runs_are_complete, words_have_acts};
 pub use notes::notes_come_last;
 pub use quiet::quiet_leaves_lines_out;
+pub use unread::unread_changes_lines;

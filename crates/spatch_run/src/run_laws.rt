@@ -17,7 +17,7 @@ ghost use Rattle.run_files.specs.RunStages.Causes.{Causes};
 
 use c_places::places_are_one;
 use read_laws::{isos_are_read_once, patches_are_expanded_once, patches_have_one_fault};
-use rule_chain::chain_has_one_end;
+use rule_chain::unread_changes_notes_alone;
 use smpl_file::patches_are_read_once;
 use smpl_notes::patches_are_noted_once;
 use smpl_places::faults_have_one_place;
@@ -41,7 +41,7 @@ pub fn acts_are_one_list()
     patches_have_one_fault();
     isos_are_read_once();
     patches_are_expanded_once();
-    chain_has_one_end();
+    unread_changes_notes_alone();
     faults_have_one_place();
     places_are_one();
 }

@@ -32,10 +32,10 @@ use iso_expand::{ExpandFault, expand};
 use iso_file::{IsoFault, read_isos};
 use outer_io::{Shelf, Sink};
 use par_match::{Gate, Workers};
-use rule_chain::PatchRules;
+use rule_chain::{PatchRules, words_of_rules};
 use rule_envs::{Prepared, prepare};
 use run_acts::{Loaded, Outside, Status, Stopped, load};
-use run_files::{iso_byte, placed, told_place};
+use run_files::{NoteLines, iso_byte, placed, told_place};
 use run_words::{Order, PatchOrder, Target, order_of, text_fault, utf8_words, word_fault};
 use smpl_file::read_patch;
 use smpl_patch::{Iso, Patch, PatchFault};
@@ -184,7 +184,7 @@ fn give_forms<R: Threads + Sync, S: Shelf, O: Sink, E: Sink, G: Gate>(
     requires few { few_functions order.now.target }
     requires read { (bytes : List ℕ) × IsPatchOf bytes noted.patch }
     ensures same { SamePlaces outside.old outside.new }
-    ensures ends { LeadsBy (ReadLeads noted.patch (map (λ line. line.items) noted.notes.items) (shown_isos order.now.isos) order.now.defined.items
+    ensures ends { LeadsBy (ReadLeads noted.patch noted.notes (shown_isos order.now.isos) order.now.defined.items
         (shown_target order.now.target))
         (counts (S.faults outside.old.shelf.now) (O.faults outside.old.out.now) (E.faults outside.old.err.now))
         (counts (S.faults outside.new.shelf.now) (O.faults outside.new.out.now) (E.faults outside.new.err.now))
@@ -218,7 +218,7 @@ fn load_isos<R: Threads + Sync, S: Shelf, O: Sink, E: Sink, G: Gate>(
     requires few { few_functions order.now.target }
     requires read { (bytes : List ℕ) × IsPatchOf bytes noted.patch }
     ensures same { SamePlaces outside.old outside.new }
-    ensures ends { Ends (Doing [] (ReadIsos noted.patch (map (λ line. line.items) noted.notes.items) name.now order.now.defined.items
+    ensures ends { Ends (Doing [] (ReadIsos noted.patch noted.notes name.now order.now.defined.items
         (shown_target order.now.target)))
         (counts (S.faults outside.old.shelf.now) (O.faults outside.old.out.now) (E.faults outside.old.err.now))
         (counts (S.faults outside.new.shelf.now) (O.faults outside.new.out.now) (E.faults outside.new.err.now))
@@ -258,7 +258,7 @@ fn expand_patch<R: Threads + Sync, S: Shelf, O: Sink, E: Sink, G: Gate>(
     requires few { few_functions order.now.target }
     requires read { (bytes : List ℕ) × IsPatchOf bytes noted.patch }
     ensures same { SamePlaces outside.old outside.new }
-    ensures ends { LeadsBy (IsosLead isos.now noted.patch (map (λ line. line.items) noted.notes.items) name.now order.now.defined.items
+    ensures ends { LeadsBy (IsosLead isos.now noted.patch noted.notes name.now order.now.defined.items
         (shown_target order.now.target))
         (counts (S.faults outside.old.shelf.now) (O.faults outside.old.out.now) (E.faults outside.old.err.now))
         (counts (S.faults outside.new.shelf.now) (O.faults outside.new.out.now) (E.faults outside.new.err.now))
@@ -303,13 +303,13 @@ fn use_patch<R: Threads + Sync, S: Shelf, O: Sink, E: Sink, G: Gate>(
     host: &Host<'_, R, G>,
     order: &PatchOrder<'_>,
     patch: &Patch,
-    notes: &[Vec<u8>],
+    notes: &NoteLines,
     outside: &mut Outside<'_, '_, '_, S, O, E>,
 ) -> Result<Status, Stopped>
     requires few { few_functions order.now.target }
     requires usable { IsUsable patch.now }
     ensures same { SamePlaces outside.old outside.new }
-    ensures ends { LeadsBy (TargetLeads patch.now (map (λ line. line.items) notes.now) order.now.defined.items (shown_target order.now.target))
+    ensures ends { LeadsBy (TargetLeads patch.now notes.now order.now.defined.items (shown_target order.now.target))
         (counts (S.faults outside.old.shelf.now) (O.faults outside.old.out.now) (E.faults outside.old.err.now))
         (counts (S.faults outside.new.shelf.now) (O.faults outside.new.out.now) (E.faults outside.new.err.now))
         (observed (S.holds outside.old.shelf.now) (S.stores outside.old.shelf.now) (O.written outside.old.out.now) (E.written outside.old.err.now))
@@ -317,6 +317,8 @@ fn use_patch<R: Threads + Sync, S: Shelf, O: Sink, E: Sink, G: Gate>(
         (answer result) }
 {
     let prepared = prepared(host.alloc, patch)?;
+    let unread = order.target.unread();
+    let words = words_of_rules(host.alloc, unread, &prepared)?;
     let workers = Workers {
         rt: host.rt,
         alloc: host.alloc,
@@ -327,10 +329,12 @@ fn use_patch<R: Threads + Sync, S: Shelf, O: Sink, E: Sink, G: Gate>(
         patch,
         prepared: &prepared,
         defined: &order.defined,
+        unread,
+        words: &words,
     };
     match &order.target {
         Target::Files(mode, names) => edit_files(&workers, &rules, *mode, names, notes, outside),
-        Target::Text(seed, functions, quiet) => sum_text(
+        Target::Text(seed, functions, quiet, _) => sum_text(
             &workers, &rules, *seed, *functions, *quiet, outside,
         ),
     }

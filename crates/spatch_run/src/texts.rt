@@ -1,11 +1,12 @@
 // Texts about the program, and generated ones.
-ghost use Rattle.std.specs.Prelude.{◌≤◌, ◌∷◌, [], List, ℕ, Option};
+ghost use Rattle.std.specs.Prelude.{◌≤◌, ◌∷◌, [], ℕ, Option};
 ghost use Rattle.outer_io.specs.Files.{Files};
 ghost use Rattle.run_acts.specs.Acts.{Print, observed};
 ghost use Rattle.run_acts.specs.Breaks.{counts};
 ghost use Rattle.run_acts.specs.Places.{SamePlaces};
 ghost use Rattle.sp_gen.specs.Generated.{generated};
 ghost use Rattle.run_words.specs.Orders.{OnText};
+ghost use Rattle.run_files.specs.declared.run_lines.notes.NoteLines.{NoteLines};
 ghost use Rattle.run_files.specs.RunLines.Words.{said};
 ghost use Rattle.run_files.specs.RunStages.Stages.{Ending, TargetLeads};
 ghost use Rattle.run_files.specs.RunStages.Ends.{Ends, LeadsBy};
@@ -62,8 +63,8 @@ pub fn sum_text<R: Threads + Sync, S: Shelf, O: Sink, E: Sink, G: Gate>(
 ) -> Result<Status, Stopped>
     requires few { functions ≤ 100000 }
     ensures same { SamePlaces outside.old outside.new }
-    ensures ends { (notes : List (List ℕ)) →
-        LeadsBy (TargetLeads rules.now.patch.now notes rules.now.defined.now (OnText seed functions quiet))
+    ensures ends { (notes : NoteLines) →
+        LeadsBy (TargetLeads rules.now.patch.now notes rules.now.defined.now (OnText seed functions quiet rules.now.unread))
         (counts (S.faults outside.old.shelf.now) (O.faults outside.old.out.now) (E.faults outside.old.err.now))
         (counts (S.faults outside.new.shelf.now) (O.faults outside.new.out.now) (E.faults outside.new.err.now))
         (observed (S.holds outside.old.shelf.now) (S.stores outside.old.shelf.now) (O.written outside.old.out.now) (E.written outside.old.err.now))

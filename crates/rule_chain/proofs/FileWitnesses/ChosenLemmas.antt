@@ -1,6 +1,5 @@
 -- The items in which a rule may find something, and the graphs that they are lent.
 use Rattle.std.proofs.Common.{◌≡◌, ◌<◌, ℕ, refl, sym, ap, subst, ◌∙◌, arith, Bool, true, false, cond, Bor, Option, None, List, length, get_or}
-use Rattle.std.specs.Prelude.{slice_get}
 use Rattle.cpp_lines.specs.declared.reading.Item.{Item}
 use Rattle.cfg_build.specs.CfgGraph.Flow.{Flow}
 use Rattle.smpl_patch.specs.Wants.{ask_types}

@@ -51,15 +51,12 @@ not_false : (b : Bool) → not b ≡ true → b ≡ false
 not_false true h = absurd (cc)
 not_false false h = refl
 
-module _ (number : ℕ) (rule : Rule) (f : FormulaOf) (is : IsFormulaOf rule f) (words : List (List ℕ)) (needed : AreNeeded words f)
-    (item : ℕ) (env : Pairs) where
-  no_witness : (t : Tree) (types : ItemTypes) → node_count t < 2 ^ 32 → has_words words t ≡ false
+-- nothing is found in an item that lacks one word that the rule's formula needs, whatever is known of types
+module _ (number : ℕ) (rule : Rule) (w : List ℕ) (needed : needs w (formula_of rule) ≡ true) (item : ℕ) (env : Pairs) where
+  no_witness : (t : Tree) (types : ItemTypes) → node_count t < 2 ^ 32 → has_word w t ≡ false
       → witnesses_in number rule item (Some (with_types (graph_of t) types)) env ≡ []
   no_witness t types few h =
       let g = with_types (graph_of t) types in
-      let k = all_lacks (λ w. has_word w t) words h in
-      let n : needs k.0 (plain f) ≡ true = needed k.0 (any_has (λ x. same_bytes x k.0) k.0 words k.1 (bytes-refl k.0)) in
-      let m : needs k.0 (formula_of rule) ≡ true = ap (needs k.0) (sym is.formula) ∙ n in
       flat_none
       (λ s. map (witness_at rule.vars rule.tokens g (formula_of rule) rule.exports number item s)
       (filter (λ (e : List (Var × Value)). holds rule.vars rule.tokens g (count_of g + 1) (formula_of rule) s (total e))
@@ -68,19 +65,41 @@ module _ (number : ℕ) (rule : Rule) (f : FormulaOf) (is : IsFormulaOf rule f) 
       (λ s lt. ap (map (witness_at rule.vars rule.tokens g (formula_of rule) rule.exports number item s))
       (filter_none (λ (e : List (Var × Value)). holds rule.vars rule.tokens g (count_of g + 1) (formula_of rule) s (total e))
       (choices (in_order (values_of g)) rule.exports env)
-      (λ e. holds_no k.0 rule.vars rule.tokens t types few k.2 (count_of g + 1) (formula_of rule) m s lt (total e))))
+      (λ e. holds_no w rule.vars rule.tokens t types few h (count_of g + 1) (formula_of rule) needed s lt (total e))))
 
-  -- whatever is known of the types of the item's expressions
-  nothing_by : (items : List Item) (i : ℕ) (typed : Bool) (o : Option Item) → slice_get items i ≡ o → IfSome (item_tree o) (λ t. node_count t < 2 ^ 32)
-      → misses words (item_tree o) ≡ true → witnesses_in number rule item (graph_in typed items i) env ≡ []
-  nothing_by items i typed None e few h = absurd (cc)
-  nothing_by items i true (Some (Parsed t)) e few h =
+  nothing_by : (items : List Item) (i : ℕ) (typed : Bool) (o : Option Item) → slice_get items i ≡ o
+      → IfSome (item_tree o) (λ t. (node_count t < 2 ^ 32) × (has_word w t ≡ false)) → witnesses_in number rule item (graph_in typed items i) env ≡ []
+  nothing_by items i true None e lacks =
       ap (λ (o : Option Item). witnesses_in number rule item (option_map (typed_tree (scope_of (take i items))) (item_tree o)) env) e
-      ∙ no_witness t (item_types (scope_of (take i items)) t) few (not_false (has_words words t) h)
-  nothing_by items i false (Some (Parsed t)) e few h =
-      ap (λ (o : Option Item). witnesses_in number rule item (item_graph o) env) e ∙ no_witness t no_types few (not_false (has_words words t) h)
-  nothing_by items i typed (Some (Skipped span why)) e few h = absurd (cc)
+  nothing_by items i false None e lacks = ap (λ (o : Option Item). witnesses_in number rule item (item_graph o) env) e
+  nothing_by items i true (Some (Parsed t)) e lacks =
+      ap (λ (o : Option Item). witnesses_in number rule item (option_map (typed_tree (scope_of (take i items))) (item_tree o)) env) e
+      ∙ no_witness t (item_types (scope_of (take i items)) t) lacks.0 lacks.1
+  nothing_by items i false (Some (Parsed t)) e lacks =
+      ap (λ (o : Option Item). witnesses_in number rule item (item_graph o) env) e ∙ no_witness t no_types lacks.0 lacks.1
+  nothing_by items i true (Some (Skipped span why)) e lacks =
+      ap (λ (o : Option Item). witnesses_in number rule item (option_map (typed_tree (scope_of (take i items))) (item_tree o)) env) e
+  nothing_by items i false (Some (Skipped span why)) e lacks = ap (λ (o : Option Item). witnesses_in number rule item (item_graph o) env) e
+
+  -- an item that is skipped has no tree
+  pub nothing_without : (items : List Item) (i : ℕ)
+      → IfSome (item_tree (slice_get items i)) (λ t. (node_count t < 2 ^ 32) × (has_word w t ≡ false))
+      → witnesses_in number rule item (seen_graph rule items i) env ≡ []
+  nothing_without items i lacks = nothing_by items i (ask_types rule.vars) (slice_get items i) refl lacks
+
+-- the same of words that are kept of the rule
+module _ (number : ℕ) (rule : Rule) (f : FormulaOf) (is : IsFormulaOf rule f) (words : List (List ℕ)) (needed : AreNeeded words f)
+    (item : ℕ) (env : Pairs) where
+  lacking : (o : Option Tree) → IfSome o (λ t. node_count t < 2 ^ 32) → misses words o ≡ true
+      → (w : List ℕ) × ((needs w (formula_of rule) ≡ true) × IfSome o (λ t. (node_count t < 2 ^ 32) × (has_word w t ≡ false)))
+  lacking None few h = absurd (cc)
+  lacking (Some t) few h =
+      let k = all_lacks (λ w. has_word w t) words (not_false (has_words words t) h) in
+      let n : needs k.0 (plain f) ≡ true = needed k.0 (any_has (λ x. same_bytes x k.0) k.0 words k.1 (bytes-refl k.0)) in
+      (k.0, (ap (needs k.0) (sym is.formula) ∙ n, (few, k.2)))
 
   pub nothing_found : (items : List Item) (i : ℕ) → IfSome (item_tree (slice_get items i)) (λ t. node_count t < 2 ^ 32)
       → misses words (item_tree (slice_get items i)) ≡ true → witnesses_in number rule item (seen_graph rule items i) env ≡ []
-  nothing_found items i few h = nothing_by items i (ask_types rule.vars) (slice_get items i) refl few h
+  nothing_found items i few h =
+      let l = lacking (item_tree (slice_get items i)) few h in
+      nothing_without number rule l.0 l.1.0 item env items i l.1.1

@@ -1,5 +1,5 @@
 -- What a rule does, seen from a state whose terms have no ids.
-use Rattle.std.proofs.Common.{◌≡◌, ◌<◌, ◌≤◌, ◌⊎◌, inl, inr, ℕ, refl, sym, ap, subst, ◌∙◌, arith, Bool, true, false, Option, List, [], ◌∷◌, ◌++◌, length, map}
+use Rattle.std.proofs.Common.{◌≡◌, ◌<◌, ◌≤◌, ◌⊎◌, inl, inr, ℕ, refl, sym, ap, subst, ◌∙◌, arith, Bool, true, false, not, Option, List, [], ◌∷◌, ◌++◌, length, map}
 use Rattle.std.proofs.Math.Path.{subst₂, subst₃}
 use Rattle.std.proofs.lemmas.List.{map-append, length-map}
 use Rattle.smpl_patch.specs.declared.rule.Rule.{Rule}
@@ -10,17 +10,18 @@ use Rattle.edit_marks.specs.declared.edit_conflict.edit.Edit.{Edit}
 use Rattle.edit_marks.specs.EditWalk.Edited.{AreEdits}
 use Rattle.rule_chain.proofs.EditLaws.BareEdits.{edits_with}
 use Rattle.rule_chain.specs.RuleWitnesses.Bare.{bare_witness}
+use Rattle.env_parts.specs.Parts.{Pairs}
 use Rattle.rule_envs.specs.declared.file_env.FileEnv.{FileEnv}
 use Rattle.rule_envs.specs.Shares.{bare_file_env}
 use Rattle.rule_envs.specs.FileEnvs.{most_environments}
 use Rattle.rule_chain.specs.declared.rule_matches.fault.MatchFault.{MatchFault}
 use Rattle.rule_chain.specs.declared.rule_matches.fault.MatchFault.TheVariants as match_faults
-use Rattle.rule_chain.specs.RuleMatches.Matching.{rule_found, file_envs_after, has_too_many}
+use Rattle.rule_chain.specs.RuleMatches.Matching.{rule_found, rule_projections, file_envs_after, has_too_many}
 use Rattle.rule_chain.specs.declared.rule_edits.fault.EditFault.{EditFault}
 use Rattle.rule_chain.specs.declared.rule_edits.fault.EditFault.TheVariants as edit_faults
 use Rattle.rule_chain.specs.declared.rule_edits.texts.NewText.{NewText}
 use Rattle.rule_chain.specs.RuleEdits.Nodes.{nodes_of}
-use Rattle.rule_chain.specs.RuleEdits.Pages.{Page, IsNew}
+use Rattle.rule_chain.specs.RuleEdits.Pages.{Page, is_empty, IsNew}
 use Rattle.rule_chain.specs.RuleEdits.Faults.{AreFine, IsEditFault, Leaves}
 use Rattle.rule_chain.specs.declared.rule_run.state.FileState.{FileState}
 use Rattle.rule_chain.specs.declared.rule_run.fault.FileFault.{FileFault}
@@ -70,6 +71,10 @@ module _ (defined : List (List ℕ)) (number : ℕ) (rule : Rule) (file : FileIt
     too_much_as : is_too_much defined number rule s ≡ too_much_here
     too_much_as = λ i. has_too_many defined (had_as i) number rule (items_as i) (bare_as i)
 
+    runs_as : rule_projections defined s.had number rule s.items s.file_envs
+        ≡ rule_projections defined had number rule items (map bare_file_env file_envs)
+    runs_as = λ i. rule_projections defined (had_as i) number rule (items_as i) (bare_as i)
+
     next_as : s.page.next ≡ next
     next_as = ap (λ (p : Page). p.next) reading.page
 
@@ -87,12 +92,13 @@ module _ (defined : List (List ℕ)) (number : ℕ) (rule : Rule) (file : FileIt
         (edits_with rule file.items (nodes_of rule file.items) file.pieces passed edits are)
 
   -- what is left
-  pub rule_works : (ws passed : List RuleWitness) (cs : List FileEnv) (left : FileState) (text : Option NewText)
+  pub rule_works : (ws passed : List RuleWitness) (cs : List FileEnv) (left : FileState) (text : Option NewText) (ran : Bool)
       → too_much_here ≡ false → map bare_witness ws ≡ found_here → map bare_file_env cs ≡ file_envs_here → length cs ≤ most_environments → passed ≡ ws
       → ((edits : List Edit) × (AreEdits passed rule file.items (nodes_of rule file.items) file.pieces edits × Leaves next file.pieces edits text))
       → left.file_envs ≡ cs → left.had ≡ had_after f.had number ws → left.found ≡ f.found ++ ws
-      → (s : Chained) → AreFindingsOf f s → IsAtReading file next s → IsOutcome defined number rule s left text
-  rule_works ws passed cs left text few found carried most same e c h w s seen reading = record {
+      → ran ≡ not (is_empty (rule_projections defined had number rule items (map bare_file_env file_envs)))
+      → (s : Chained) → AreFindingsOf f s → IsAtReading file next s → IsOutcome defined number rule s left text ran
+  rule_works ws passed cs left text ran few found carried most same e c h w runs s seen reading = record {
     edits = e.0;
     few = are_few s seen reading cs few carried most;
     are = rule_edits s seen reading ws passed e.0 same found e.1.0;
@@ -106,6 +112,7 @@ module _ (defined : List (List ℕ)) (number : ℕ) (rule : Rule) (file : FileIt
           ∙ ap (map bare_witness) (sym w);
     };
     text_is = subst₂ (λ n ps. IsNew n ps e.0 text) (sym (next_as s seen reading)) (sym reading.pieces) e.1.1.new;
+    ran_is = runs ∙ ap (λ (envs : List Pairs). not (is_empty envs)) (sym (runs_as s seen reading));
   }
 
   -- the faults of its edits

@@ -11,11 +11,12 @@ use Rattle.rule_chain.specs.declared.rule_edits.fault.EditFault.TheVariants as e
 use Rattle.rule_chain.specs.RuleEdits.Nodes.{nodes_of}
 use Rattle.rule_chain.specs.RuleEdits.Pages.{is_edited, page_after}
 use Rattle.rule_chain.specs.RuleEdits.Faults.{AreFine, IsEditFault}
-use Rattle.rule_chain.specs.RuleMatches.Matching.{rule_found, file_envs_after, has_too_many}
+use Rattle.rule_chain.specs.RuleMatches.Matching.{rule_found, file_envs_after, has_too_many, rule_projections}
 use Rattle.rule_chain.specs.declared.rule_matches.fault.MatchFault.{MatchFault}
 use Rattle.rule_chain.specs.declared.rule_matches.fault.MatchFault.TheVariants as matching
 use Rattle.rule_chain.specs.declared.rule_run.fault.FileFault.{FileFault}
 use Rattle.rule_chain.specs.declared.rule_run.fault.FileFault.TheVariants.{TooManyWitnesses, TooManyEnvironments, Conflict, FileTooLong, NoMemory}
+use Rattle.rule_chain.specs.RuleRun.Needed.{ran_after}
 use Rattle.rule_chain.specs.RuleRun.States.{Chained, ReadsAgain}
 
 -- the fault of what a rule finds, with the rule's number
@@ -62,6 +63,7 @@ module _ (defined : List (List ℕ)) (number : ℕ) (rule : Rule) (s : Chained) 
     file_envs = rule_file_envs;
     had = had_after s.had number file_witnesses;
     found = s.found ++ file_witnesses;
+    needed = record s.needed { ran = ran_after s.needed.ran rule (rule_projections defined s.had number rule s.items s.file_envs) };
   }
 
 -- neither too many witnesses in an item, nor too many environments

@@ -1,5 +1,5 @@
 -- How the code's findings relate to the states of the chain.
-use Rattle.std.specs.Prelude.{ℕ, ◌≡◌, List, map, Option}
+use Rattle.std.specs.Prelude.{ℕ, ◌≡◌, Bool, not, List, map, Option}
 use Rattle.c_file.specs.File.{FileItems}
 use Rattle.edit_marks.specs.declared.edit_conflict.edit.Edit.{Edit}
 use Rattle.smpl_patch.specs.declared.rule.Rule.{Rule}
@@ -7,8 +7,9 @@ use Rattle.rule_chain.specs.RuleWitnesses.Bare.{bare_witness}
 use Rattle.rule_envs.specs.declared.file_env.FileEnv.{FileEnv}
 use Rattle.rule_envs.specs.Shares.{bare_file_env}
 use Rattle.rule_chain.specs.declared.rule_edits.texts.NewText.{NewText}
-use Rattle.rule_chain.specs.RuleEdits.Pages.{old_page, IsNew}
+use Rattle.rule_chain.specs.RuleEdits.Pages.{is_empty, old_page, IsNew}
 use Rattle.rule_chain.specs.RuleEdits.Faults.{AreFine}
+use Rattle.rule_chain.specs.RuleMatches.Matching.{rule_projections}
 use Rattle.rule_chain.specs.declared.rule_run.state.FileState.{FileState}
 use Rattle.rule_chain.specs.RuleRun.States.{Chained}
 use Rattle.rule_chain.specs.RuleRun.OneRule.{AreFew, RuleEdits, state_after}
@@ -29,11 +30,14 @@ pub record IsAtReading (file : FileItems) (next : ℕ) (s : Chained) : Type 0 wh
   pub pieces : s.pieces ≡ file.pieces
   pub items : s.items ≡ file.items
 
--- Starting from this state, the rule meets no fault and leaves these findings and this text.
-pub record IsOutcome (defined : List (List ℕ)) (number : ℕ) (rule : Rule) (s : Chained) (findings : FileState) (text : Option NewText) : Type 0 where
+-- Starting from this state, the rule meets no fault and leaves these findings and this text. It runs if it has something to run
+-- under.
+pub record IsOutcome (defined : List (List ℕ)) (number : ℕ) (rule : Rule) (s : Chained) (findings : FileState) (text : Option NewText)
+    (ran : Bool) : Type 0 where
   pub edits : List Edit
   pub few : AreFew defined number rule s
   pub are : RuleEdits defined number rule s edits
   pub fine : AreFine s.page.next s.pieces edits
   pub findings_are : AreFindingsOf findings (state_after defined number rule s edits)
   pub text_is : IsNew s.page.next s.pieces edits text
+  pub ran_is : ran ≡ not (is_empty (rule_projections defined s.had number rule s.items s.file_envs))

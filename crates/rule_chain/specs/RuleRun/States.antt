@@ -1,5 +1,7 @@
 -- The states of the chain.
 use Rattle.std.specs.Prelude.{ℕ, ◌≡◌, suc, List, [], ◌++◌, length}
+use Rattle.run_choices.specs.declared.unread.Unread.{Unread}
+use Rattle.run_choices.specs.declared.unread.Unread.TheVariants as unread
 use Rattle.c_lexer.specs.Pieces.{TextPiece, text_of}
 use Rattle.c_lexer.specs.Lexes.{Cuts}
 use Rattle.c_lexer.specs.Ids.{ids_of}
@@ -11,6 +13,7 @@ use Rattle.rule_envs.specs.FileEnvs.{first_file_envs}
 use Rattle.rule_chain.specs.RuleEdits.Pages.{Page}
 use Rattle.rule_chain.specs.declared.rule_run.state.SkipNote.{SkipNote}
 use Rattle.rule_chain.specs.RuleRun.Notes.{notes_on}
+use Rattle.rule_chain.specs.RuleRun.Needed.{NeededNotes, none_needed, needed_on}
 
 -- The state of the chain between two rules, before the first, or after the last. The pieces and the items are those of the last
 -- reading. Terms in environments and witnesses have no ids.
@@ -26,6 +29,8 @@ pub record Chained : Type 0 where
   -- how many tokens the text that was loaded has
   pub loaded : ℕ
   pub skipped : List SkipNote
+  -- what is told of these if only needed ones are; nothing else depends on it
+  pub needed : NeededNotes
 
 -- the page is cut into these pieces
 pub record IsCut (page : Page) (pieces : List TextPiece) : Type 0 where
@@ -48,7 +53,13 @@ first_state pieces shown items = record {
   found = [];
   loaded = length (ids_of pieces);
   skipped = notes_on (length (ids_of pieces)) 0 (record { pieces = pieces; shown = shown; items = items });
+  needed = none_needed shown;
 }
+
+-- the notes on the items that are needed: those on earlier readings, and those on the last
+abbrev pub needed_notes : Chained → List SkipNote
+needed_notes s = s.needed.earlier
+    ++ needed_on s.needed.ran s.loaded s.reading (record { pieces = s.pieces; shown = s.needed.shown; items = s.items })
 
 -- the text is read again
 pub record ReadsAgain (s next : Chained) : Type 0 where
@@ -61,4 +72,11 @@ pub record ReadsAgain (s next : Chained) : Type 0 where
     pieces = pieces;
     items = items;
     skipped = s.skipped ++ notes_on s.loaded (suc s.reading) (record { pieces = pieces; shown = reads.0; items = items });
+    needed = record { shown = reads.0; ran = []; earlier = needed_notes s };
   }
+
+-- the notes that are told: all, those on needed items, or none
+abbrev pub told_notes : Unread → Chained → List SkipNote
+told_notes unread.All s = s.skipped
+told_notes unread.Needed s = needed_notes s
+told_notes unread.None s = []

@@ -1,9 +1,11 @@
 // What a rule finds, and the environments after it.
-ghost use Rattle.std.specs.Prelude.{◌≡◌, ◌<◌, ◌≤◌, ℕ, Bool, All, IfOk, OnOk, Err, map, length, true, false};
+ghost use Rattle.std.specs.Prelude.{◌≡◌, ◌<◌, ◌≤◌, ℕ, Bool, All, IfOk, OnOk, Err, map, length, not, true, false};
 ghost use Rattle.c_file.specs.ItemGraphs.Made.{IsMade};
+ghost use Rattle.env_parts.specs.Parts.{bare_env};
 ghost use Rattle.rule_envs.specs.Shares.{bare_file_env};
 ghost use Rattle.rule_envs.specs.FileEnvs.{most_environments};
 ghost use Rattle.rule_chain.specs.RuleWitnesses.Bare.{bare_witness};
+ghost use Rattle.rule_chain.specs.RuleEdits.Pages.{is_empty};
 ghost use Rattle.rule_chain.specs.RuleMatches.Matching as spec;
 ghost use Rattle.rule_chain.specs.declared.rule_matches.fault.MatchFault.TheVariants as fault;
 
@@ -14,6 +16,7 @@ use c_file::Graphs;
 use par_match::{Gate, Workers};
 use rule_envs::{FileEnv, next_file_envs, projections};
 use smpl_patch::RuleWitness;
+use smpl_terms::Env;
 use sqlite_items::Items;
 use std::thread::Threads;
 
@@ -22,6 +25,17 @@ use std::thread::Threads;
 pub struct RuleMatches {
     pub witnesses: Items<RuleWitness>,
     pub file_envs: Items<FileEnv>,
+    /// The rule has something to run under.
+    pub ran: bool,
+}
+
+fn has_some(envs: &[Env]) -> bool
+    ensures { result ≡ not (is_empty (map bare_env envs.now)) }
+{
+    match envs {
+        [_, ..] => true,
+        [] => false,
+    }
 }
 
 /// Matches one rule against one reading of a file: chooses what it runs under, finds its witnesses, and replaces the
@@ -48,6 +62,8 @@ pub fn match_rule<R: Threads + Sync, G: Gate>(
         ≡ spec.rule_found ready.now.defined.now had.now ready.now.number ready.now.rule.now graphs.old.items (map bare_file_env file_envs.now)) }
     ensures file_envs { IfOk result (λ t. map bare_file_env t.file_envs
         ≡ spec.file_envs_after ready.now.defined.now had.now ready.now.number ready.now.rule.now graphs.old.items (map bare_file_env file_envs.now)) }
+    ensures ran { IfOk result (λ t. t.ran
+        ≡ not (is_empty (spec.rule_projections ready.now.defined.now had.now ready.now.number ready.now.rule.now graphs.old.items (map bare_file_env file_envs.now)))) }
     ensures few { OnOk result
         (spec.has_too_many ready.now.defined.now had.now ready.now.number ready.now.rule.now graphs.old.items (map bare_file_env file_envs.now) ≡ false) }
     ensures few_environments { IfOk result (λ t. length t.file_envs ≤ most_environments) }
@@ -82,8 +98,10 @@ pub fn match_rule<R: Threads + Sync, G: Gate>(
         projected.places.as_slice(),
         found.parts.as_slice(),
     )?;
+    let ran = has_some(projected.projections.as_slice());
     Ok(RuleMatches {
         witnesses: found.witnesses,
         file_envs: next,
+        ran,
     })
 }

@@ -46,6 +46,7 @@ fn findings_after(
     let RuleMatches {
         witnesses,
         file_envs,
+        ran: _,
     } = matches;
     let had = had_after(had, number, witnesses.as_slice())?;
     let mut found = found;
@@ -62,6 +63,8 @@ fn findings_after(
 pub struct RuleOutcome {
     pub findings: FileState,
     pub text: Option<NewText>,
+    /// The rule had something to run under.
+    pub ran: bool,
 }
 
 /// Runs one rule over a reading of the file: finds its witnesses, replaces the environments, and applies all its edits to the
@@ -88,7 +91,7 @@ pub fn run_rule<R: Threads + Sync, G: Gate>(
 ) -> Result<RuleOutcome, FileFault>
     requires items { graphs.old.items ≡ reading.now.file.now.items }
     ensures outcome { IfOk result (λ w. (s : Chained) → AreFindingsOf findings s → IsAtReading reading.now.file.now reading.now.next s
-        → IsOutcome ready.now.defined.now ready.now.number ready.now.rule.now s w.findings w.text) }
+        → IsOutcome ready.now.defined.now ready.now.number ready.now.rule.now s w.findings w.text w.ran) }
     ensures fault { IfErr result (λ f. (f ≡ fault.NoMemory) ⊎ ((s : Chained) → AreFindingsOf findings s
         → IsAtReading reading.now.file.now reading.now.next s
         → spec.IsFault ready.now.defined.now ready.now.number ready.now.rule.now s f)) }
@@ -123,9 +126,11 @@ pub fn run_rule<R: Threads + Sync, G: Gate>(
         Ok(text) => text,
         Err(fault) => return Err(of_edits(ready.number, fault)),
     };
+    let ran = matches.ran;
     let left = findings_after(had, found, ready.number, matches)?;
     Ok(RuleOutcome {
         findings: left,
         text,
+        ran,
     })
 }

@@ -7,9 +7,10 @@ use Rattle.text_places.specs.declared.place.Place.{Place}
 use Rattle.smpl_notes.specs.declared.note.Note.{Note}
 use Rattle.smpl_notes.specs.declared.note.Note.TheVariants.{NoSign, InRule}
 use Rattle.smpl_notes.specs.Sentences.{sentence}
-use Rattle.smpl_notes.specs.Told.{is_told}
+use Rattle.smpl_notes.specs.Told.{is_told, is_told_always}
 use Rattle.run_words.specs.declared.order.Mode.{Mode}
 use Rattle.run_words.specs.Orders.{Target, OnFiles, OnText}
+use Rattle.run_files.specs.declared.run_lines.notes.NoteLines.{NoteLines}
 use Rattle.run_files.specs.RunLines.Further.{further}
 
 abbrev pub noted : List ℕ → List ℕ
@@ -35,8 +36,17 @@ line_at name (InRule rule place slip) what = rule_line name rule place what
 abbrev pub note_line : List ℕ → Note → List ℕ
 note_line name note = line_at name note (noted (sentence note))
 
--- the lines of the notes that a run tells if nothing is found: none on a generated text, and none under `--quiet`
-abbrev pub note_lines : List ℕ → (has_isos : Bool) → Target → List Note → List (List ℕ)
-note_lines name has_isos (OnFiles mode names) notes =
-    cond mode.quiet [] (map (note_line name) (filter (is_told has_isos mode.witnesses) notes))
-note_lines name has_isos (OnText seed functions quiet) notes = []
+abbrev pub no_lines : NoteLines
+no_lines = record { all = []; always = [] }
+
+-- the lines of those notes that a run tells if nothing is found, and of those that it tells if something is found too
+abbrev pub lines_of : List ℕ → (has_isos reports : Bool) → List Note → NoteLines
+lines_of name has_isos reports notes = record {
+  all = map (note_line name) (filter (is_told has_isos reports) notes);
+  always = map (note_line name) (filter is_told_always notes);
+}
+
+-- the lines of the notes that a run may tell: none on a generated text, and none under `--quiet`
+abbrev pub note_lines : List ℕ → (has_isos : Bool) → Target → List Note → NoteLines
+note_lines name has_isos (OnFiles mode names) notes = cond mode.quiet no_lines (lines_of name has_isos mode.witnesses notes)
+note_lines name has_isos (OnText seed functions quiet unread) notes = no_lines

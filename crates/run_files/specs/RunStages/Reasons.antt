@@ -11,6 +11,7 @@ use Rattle.iso_file.specs.declared.fault.IsoFault.{IsoFault}
 use Rattle.iso_file.specs.Isos.{AreIsosOf, IsFileFault}
 use Rattle.iso_expand.specs.Patches.{IsExpanded, IsFirstMany}
 use Rattle.sp_gen.specs.Generated.{generated}
+use Rattle.run_choices.specs.declared.unread.Unread.{Unread}
 use Rattle.run_words.specs.declared.order.Mode.{Mode}
 use Rattle.run_words.specs.declared.order.Saying.{Saying}
 use Rattle.run_words.specs.Orders.{Target, OnFiles, OnText, Apply, Generate, Say, order_of, is_quiet}
@@ -23,6 +24,7 @@ use Rattle.run_files.specs.RunLines.Notes.{note_lines}
 use Rattle.smpl_notes.specs.declared.note.Note.{Note}
 use Rattle.smpl_notes.specs.Notes.{AreNotes}
 use Rattle.run_files.specs.declared.tally.Tally.{Tally}
+use Rattle.run_files.specs.declared.run_lines.notes.NoteLines.{NoteLines}
 use Rattle.run_files.specs.Treatment.{Treated, file_limit, IsFileTreatmentOf, Sums}
 use Rattle.run_files.specs.RunStages.Stages.{patch_limit, generated_name, end_status, Course, first_course, after_file, told}
 
@@ -35,7 +37,7 @@ pub record PatchFound (words : List (List ℕ)) (old : Observed) (name : List �
   pub found : Found old.files name under
 
 -- the words ask for this patch, which was read, these are the lines of the notes on it, and these acts load it
-pub record PatchRead (words : List (List ℕ)) (old : Observed) (patch : Patch) (lines : List (List ℕ)) (isos : Option (List ℕ))
+pub record PatchRead (words : List (List ℕ)) (old : Observed) (patch : Patch) (lines : NoteLines) (isos : Option (List ℕ))
     (defined : List (List ℕ)) (target : Target) (acts : List Act) : Type 0 where
   pub name : List ℕ
   pub bytes : List ℕ
@@ -47,7 +49,7 @@ pub record PatchRead (words : List (List ℕ)) (old : Observed) (patch : Patch) 
   pub acts_are : acts ≡ Load name patch_limit ∷ []
 
 -- the patch was read, and isomorphisms of this name are asked for, under which these bytes are stored, or nothing
-pub record IsosFound (words : List (List ℕ)) (old : Observed) (patch : Patch) (lines : List (List ℕ)) (name : List ℕ) (under : Option (List ℕ))
+pub record IsosFound (words : List (List ℕ)) (old : Observed) (patch : Patch) (lines : NoteLines) (name : List ℕ) (under : Option (List ℕ))
     (defined : List (List ℕ)) (target : Target) (acts : List Act) : Type 0 where
   pub before : List Act
   pub read : PatchRead words old patch lines (Some name) defined target before
@@ -55,7 +57,7 @@ pub record IsosFound (words : List (List ℕ)) (old : Observed) (patch : Patch) 
   pub acts_are : acts ≡ before ++ Load name patch_limit ∷ []
 
 -- the patch that the words ask for, with all its forms, the lines of the notes on it, and the acts that load it and its isomorphisms
-pub data PatchReady (words : List (List ℕ)) (old : Observed) (whole : Patch) (lines : List (List ℕ)) (defined : List (List ℕ)) (target : Target)
+pub data PatchReady (words : List (List ℕ)) (old : Observed) (whole : Patch) (lines : NoteLines) (defined : List (List ℕ)) (target : Target)
     (acts : List Act) : Type 0 where
   plain : PatchRead words old whole lines None defined target acts → PatchReady words old whole lines defined target acts
   expanded : (patch : Patch) (name bytes : List ℕ) (isos : List Iso) → IsosFound words old patch lines name (Some bytes) defined target acts
@@ -73,8 +75,8 @@ abbrev pub files_status : FilesEnd → ℕ
 files_status (AllDone tally) = end_status tally
 files_status (Missing name) = 5
 
--- The files in turn: each is loaded, as observed at that time, and leads to its acts. After the last one, the notes are told if
--- nothing was found and nothing refused.
+-- The files in turn: each is loaded, as observed at that time, and leads to its acts. After the last one, notes are told
+-- if nothing was refused.
 abbrev pub FilesDo : Observed → Patch → List (List ℕ) → Mode → List (List ℕ) → Course → List Act → FilesEnd → Type 0
 FilesDo old patch defined mode [] course acts end = (acts ≡ told course) × (end ≡ AllDone course.tally)
 FilesDo old patch defined mode (name ∷ names) course acts end =
@@ -104,25 +106,25 @@ pub data Reason (words : List (List ℕ)) (old : Observed) (acts : List Act) (st
       → acts ≡ Load name patch_limit ∷ Report (patch_fault_line name (told_place (is_quiet target) (placed bytes at)) fault) ∷ []
       → status ≡ 2 → Reason words old acts status
   -- 5: nothing is stored under the isomorphisms' name
-  no_isos : (patch : Patch) (lines : List (List ℕ)) (name : List ℕ) (defined : List (List ℕ)) (target : Target) (before : List Act)
+  no_isos : (patch : Patch) (lines : NoteLines) (name : List ℕ) (defined : List (List ℕ)) (target : Target) (before : List Act)
       → IsosFound words old patch lines name None defined target before → acts ≡ before ++ Report (cannot_read name) ∷ []
       → status ≡ 5 → Reason words old acts status
   -- 3: the isomorphisms have a fault, and this is the first
-  bad_isos : (patch : Patch) (lines : List (List ℕ)) (name bytes : List ℕ) (defined : List (List ℕ)) (target : Target) (fault : IsoFault)
+  bad_isos : (patch : Patch) (lines : NoteLines) (name bytes : List ℕ) (defined : List (List ℕ)) (target : Target) (fault : IsoFault)
       (before : List Act) → IsosFound words old patch lines name (Some bytes) defined target before → IsFileFault bytes fault
       → acts ≡ before ++ Report (iso_fault_line name (told_place (is_quiet target) (placed bytes (iso_byte fault))) fault) ∷ []
       → status ≡ 3 → Reason words old acts status
   -- 3: some rule has too many forms under the isomorphisms, and this is the first
-  many_forms : (patch : Patch) (lines : List (List ℕ)) (name bytes : List ℕ) (defined : List (List ℕ)) (target : Target) (isos : List Iso) (rule : ℕ)
+  many_forms : (patch : Patch) (lines : NoteLines) (name bytes : List ℕ) (defined : List (List ℕ)) (target : Target) (isos : List Iso) (rule : ℕ)
       (before : List Act) → IsosFound words old patch lines name (Some bytes) defined target before → AreIsosOf bytes isos → IsFirstMany isos patch.rules rule
       → acts ≡ before ++ Report (forms_line name rule) ∷ [] → status ≡ 3 → Reason words old acts status
   -- 0 or 4: a patch is applied to a generated text
-  summed : (patch : Patch) (lines : List (List ℕ)) (defined : List (List ℕ)) (seed functions : ℕ) (quiet : Bool) (treated : Treated)
-      (before : List Act) → PatchReady words old patch lines defined (OnText seed functions quiet) before
-      → Sums patch defined quiet generated_name (generated seed functions) treated
+  summed : (patch : Patch) (lines : NoteLines) (defined : List (List ℕ)) (seed functions : ℕ) (quiet : Bool) (unread : Unread)
+      (treated : Treated) (before : List Act) → PatchReady words old patch lines defined (OnText seed functions quiet unread) before
+      → Sums patch defined quiet unread generated_name (generated seed functions) treated
       → acts ≡ before ++ treated.acts → status ≡ end_status treated.tally → Reason words old acts status
   -- 0, 4, 5 or 8: the files are processed
-  filed : (patch : Patch) (lines : List (List ℕ)) (defined : List (List ℕ)) (mode : Mode) (names : List (List ℕ)) (before rest : List Act)
+  filed : (patch : Patch) (lines : NoteLines) (defined : List (List ℕ)) (mode : Mode) (names : List (List ℕ)) (before rest : List Act)
       (end : FilesEnd) → PatchReady words old patch lines defined (OnFiles mode names) before
       → FilesDo old patch defined mode names (first_course lines) rest end
       → acts ≡ before ++ rest → status ≡ files_status end → Reason words old acts status

@@ -24,6 +24,7 @@ use Rattle.run_files.specs.RunLines.Notes.{note_lines}
 use Rattle.smpl_notes.specs.declared.note.Note.{Note}
 use Rattle.smpl_notes.specs.Notes.{AreNotes}
 use Rattle.run_files.specs.declared.tally.Tally.{Tally}
+use Rattle.run_files.specs.declared.run_lines.notes.NoteLines.{NoteLines}
 use Rattle.run_files.specs.Treatment.{Treated, file_limit, IsFileTreatmentOf, Sums}
 
 -- the maximum number of bytes of a patch, and of isomorphisms
@@ -39,14 +40,14 @@ generated_name = codes "generated"
 -- the tally of the files that were processed, and the lines of the notes on the patch
 pub record Course : Type 0 where
   pub tally : Tally
-  pub notes : List (List ℕ)
+  pub notes : NoteLines
 
 -- the tally of no text
 abbrev pub no_tally : Tally
 no_tally = record { refused = false; hit = false; found = false }
 
 -- before the first file
-abbrev pub first_course : List (List ℕ) → Course
+abbrev pub first_course : NoteLines → Course
 first_course notes = record { tally = no_tally; notes = notes }
 
 abbrev pub joined : Tally → Tally → Tally
@@ -55,9 +56,12 @@ joined one other = record { refused = one.refused || other.refused; hit = one.hi
 abbrev pub after_file : Course → Tally → Course
 after_file course tally = record { tally = joined course.tally tally; notes = course.notes }
 
--- the notes are told after the last file if nothing was found and nothing refused
+-- After the last file, if nothing was refused, the notes are told: all if nothing was found, or else those that are always told.
+abbrev pub told_lines : Tally → NoteLines → List (List ℕ)
+told_lines tally notes = cond tally.refused [] (cond tally.found notes.always notes.all)
+
 abbrev pub told : Course → List Act
-told course = cond (course.tally.refused || course.tally.found) [] (map Report course.notes)
+told course = map Report (told_lines course.tally course.notes)
 
 -- ---- stages
 
@@ -66,7 +70,7 @@ pub data Work : Type 0 where
   -- the patch of this name is to be loaded and read
   ReadPatch : (name : List ℕ) (isos : Option (List ℕ)) (defined : List (List ℕ)) (target : Target) → Work
   -- the isomorphisms of this name are to be loaded and read, and the patch, on which there are these notes, gets its forms
-  ReadIsos : (patch : Patch) (notes : List (List ℕ)) (name : List ℕ) (defined : List (List ℕ)) (target : Target) → Work
+  ReadIsos : (patch : Patch) (notes : NoteLines) (name : List ℕ) (defined : List (List ℕ)) (target : Target) → Work
   -- this file is to be loaded and edited, and then these
   EditFiles : (patch : Patch) (defined : List (List ℕ)) (mode : Mode) (name : List ℕ) (names : List (List ℕ)) (course : Course) → Work
 
@@ -102,14 +106,14 @@ abbrev pub begun_by : List (List ℕ) → Stage
 begun_by words = begun (word_fault words) (order_of words)
 
 -- what a patch with all its forms leads to
-abbrev pub TargetLeads : Patch → List (List ℕ) → List (List ℕ) → Target → Stage → Type 0
+abbrev pub TargetLeads : Patch → NoteLines → List (List ℕ) → Target → Stage → Type 0
 TargetLeads patch notes defined (OnFiles mode names) to = to ≡ going [] patch defined mode names (first_course notes)
-TargetLeads patch notes defined (OnText seed functions quiet) to =
-    (treated : Treated) × (Sums patch defined quiet generated_name (generated seed functions) treated
+TargetLeads patch notes defined (OnText seed functions quiet unread) to =
+    (treated : Treated) × (Sums patch defined quiet unread generated_name (generated seed functions) treated
     × (to ≡ Ending treated.acts (end_status treated.tally)))
 
 -- what a patch that was read leads to: it gets its forms if isomorphisms are named
-abbrev pub ReadLeads : Patch → List (List ℕ) → Option (List ℕ) → List (List ℕ) → Target → Stage → Type 0
+abbrev pub ReadLeads : Patch → NoteLines → Option (List ℕ) → List (List ℕ) → Target → Stage → Type 0
 ReadLeads patch notes None defined target to = TargetLeads patch notes defined target to
 ReadLeads patch notes (Some name) defined target to = to ≡ Doing [] (ReadIsos patch notes name defined target)
 
@@ -127,13 +131,13 @@ PatchLeads (Some bytes) name isos defined target to =
     ⊎ ((patch : Patch) × (IsPatchOf bytes patch × NotedLeads bytes patch name isos defined target to))
 
 -- what isomorphisms lead to: a rule has too many forms under them, or the patch gets its forms
-abbrev pub IsosLead : List Iso → Patch → List (List ℕ) → List ℕ → List (List ℕ) → Target → Stage → Type 0
+abbrev pub IsosLead : List Iso → Patch → NoteLines → List ℕ → List (List ℕ) → Target → Stage → Type 0
 IsosLead isos patch notes name defined target to =
     ((rule : ℕ) × (IsFirstMany isos patch.rules rule × (to ≡ refusing (forms_line name rule) 3)))
     ⊎ ((whole : Patch) × (IsExpanded isos patch whole × TargetLeads whole notes defined target to))
 
 -- what the content stored under the isomorphisms' name leads to
-abbrev pub IsosFileLeads : Option (List ℕ) → Patch → List (List ℕ) → List ℕ → List (List ℕ) → Target → Stage → Type 0
+abbrev pub IsosFileLeads : Option (List ℕ) → Patch → NoteLines → List ℕ → List (List ℕ) → Target → Stage → Type 0
 IsosFileLeads None patch notes name defined target to = to ≡ refusing (cannot_read name) 5
 IsosFileLeads (Some bytes) patch notes name defined target to =
     ((fault : IsoFault) × (IsFileFault bytes fault

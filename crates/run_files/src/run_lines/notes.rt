@@ -1,16 +1,17 @@
 // The lines of the notes on a patch.
-ghost use Rattle.std.specs.Prelude.{◌≡◌, ◌++◌, map, IfOk, OnOk};
+ghost use Rattle.std.specs.Prelude.{◌≡◌, ◌++◌, cond, map, IfOk, OnOk};
 ghost use Rattle.std.specs.List.{filter};
 ghost use Rattle.smpl_notes.specs.Sentences.{sentence as said};
-ghost use Rattle.smpl_notes.specs.Told.{is_told as told};
+ghost use Rattle.smpl_notes.specs.Told.{is_told as told, is_told_always as told_always};
 ghost use Rattle.run_words.specs.Shown.{shown_target};
 ghost use Rattle.run_files.specs.RunLines.Notes as spec;
 
 use crate::run_lines::further::put_further;
-use c_terms::NoMemory;
+use c_terms::{NoMemory, Text};
 use outer_io::escaped_name;
 use run_words::Target;
-use smpl_notes::{Note, is_told, sentence};
+use smpl_notes::{Note, is_told, is_told_always, sentence};
+use sqlite_items::Items;
 use std::alloc::Global;
 use text_places::Place;
 use wit_print::TextBuffer;
@@ -88,27 +89,76 @@ pub fn note_line(alloc: Global, name: &str, note: &Note) -> Result<Vec<u8>, NoMe
     Ok(line.finish())
 }
 
+/// The lines of the notes on a patch.
+#[derive(Drop)]
+pub struct NoteLines {
+    /// Those that a run tells if it finds nothing.
+    pub all: Items<Text>,
+    /// Those of them that a run tells if it finds something too.
+    pub always: Items<Text>,
+}
+
+impl NoteLines {
+    /// Returns no lines. Takes no memory.
+    pub fn none(alloc: Global) -> NoteLines
+        ensures { result ≡ spec.no_lines }
+    {
+        NoteLines {
+            all: Items::new(alloc),
+            always: Items::new(alloc),
+        }
+    }
+
+    /// Returns those that a run tells, given whether it found something.
+    pub fn told(&self, found: bool) -> &[Text]
+        ensures { result.now ≡ cond found self.now.always self.now.all }
+    {
+        if found {
+            self.always.as_slice()
+        } else {
+            self.all.as_slice()
+        }
+    }
+}
+
+fn line_text(alloc: Global, name: &str, note: &Note) -> Result<Text, NoMemory>
+    ensures { IfOk result (λ line. line ≡ spec.note_line name.now note.now) }
+{
+    Text::from_bytes(alloc, &note_line(alloc, name, note)?)
+}
+
 fn told_lines(
     alloc: Global,
     name: &str,
     has_isos: bool,
     reports: bool,
     notes: &[Note],
-) -> Result<Vec<Vec<u8>>, NoMemory>
-    ensures { IfOk result (λ lines. map (λ line. line.items) lines.items
-        ≡ map (spec.note_line name.now) (filter (told has_isos reports) notes.now)) }
+) -> Result<Items<Text>, NoMemory>
+    ensures { IfOk result (λ lines. lines ≡ map (spec.note_line name.now) (filter (told has_isos reports) notes.now)) }
 {
-    let mut lines = Vec::new(alloc);
+    let mut lines = Items::new(alloc);
     for note in notes {
         if is_told(has_isos, reports, note) {
-            lines.push(note_line(alloc, name, note)?)?;
+            lines.push(line_text(alloc, name, note)?)?;
         }
     }
     Ok(lines)
 }
 
-/// Returns the lines of the notes on the patch of this name that a run tells if it finds nothing: none if the patch is applied
-/// to a generated text, and none under `--quiet`. `has_isos` says whether isomorphisms are named.
+fn always_lines(alloc: Global, name: &str, notes: &[Note]) -> Result<Items<Text>, NoMemory>
+    ensures { IfOk result (λ lines. lines ≡ map (spec.note_line name.now) (filter told_always notes.now)) }
+{
+    let mut lines = Items::new(alloc);
+    for note in notes {
+        if is_told_always(note) {
+            lines.push(line_text(alloc, name, note)?)?;
+        }
+    }
+    Ok(lines)
+}
+
+/// Returns the lines of the notes on the patch of this name: none if the patch is applied to a generated text, and none under
+/// `--quiet`. `has_isos` says whether isomorphisms are named.
 ///
 /// Linear in the lines, and in the name for each. Fails only when out of memory.
 pub fn note_lines(
@@ -117,17 +167,18 @@ pub fn note_lines(
     has_isos: bool,
     target: &Target<'_>,
     notes: &[Note],
-) -> Result<Vec<Vec<u8>>, NoMemory>
-    ensures lines { IfOk result (λ lines. map (λ line. line.items) lines.items
-        ≡ spec.note_lines name.now has_isos (shown_target target.now) notes.now) }
+) -> Result<NoteLines, NoMemory>
+    ensures lines { IfOk result (λ lines. lines ≡ spec.note_lines name.now has_isos (shown_target target.now) notes.now) }
 {
     match target {
-        Target::Text(..) => Ok(Vec::new(alloc)),
+        Target::Text(..) => Ok(NoteLines::none(alloc)),
         Target::Files(mode, _) => {
             if mode.quiet {
-                return Ok(Vec::new(alloc));
+                return Ok(NoteLines::none(alloc));
             }
-            told_lines(alloc, name, has_isos, mode.witnesses, notes)
+            let all = told_lines(alloc, name, has_isos, mode.witnesses, notes)?;
+            let always = always_lines(alloc, name, notes)?;
+            Ok(NoteLines { all, always })
         }
     }
 }

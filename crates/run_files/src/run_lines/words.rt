@@ -29,6 +29,7 @@ const HELP: &str = concat!(
     "                    status 8 if there is one\n",
     "  --quiet           leave out the lines that say more, which begin with two\n",
     "                    blanks\n",
+    "  --unread V        tell of items that can't be read: all, needed or none\n",
     "  --iso-file I      isomorphisms; examples/standard.iso has the usual ones\n",
     "  --define a,b      the virtual names that hold\n",
     "  --jobs n          match n items at a time, 1 to 64; the answer is the same\n",

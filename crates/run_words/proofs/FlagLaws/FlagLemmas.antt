@@ -13,17 +13,18 @@ use Rattle.run_words.specs.Options.{Options, options_of}
 use Rattle.run_words.specs.Values.{seed_in, count_in, names_in}
 use Rattle.run_words.specs.OptionNames.{first_of}
 use Rattle.run_words.specs.Orders.{Order, Apply, Generate, OnFiles, OnText, Say, are_filled, asks_text, defined_in, editing, generating, has_files}
-use Rattle.run_words.specs.Orders.{has_jobs, is_about_files, is_about_patches, mode_in, most_functions, on_text, order_of, ordered, saying_in, working}
+use Rattle.run_words.specs.Orders.{has_jobs, has_unread, is_about_files, is_about_patches, mode_in, most_functions, on_text, order_of, ordered}
+use Rattle.run_words.specs.Orders.{saying_in, told_in, working}
 use Rattle.run_words.specs.Faults.{apart_fault, edit_faults, file_faults, lacks_file, lacks_functions, lacks_patch, need_fault, options_fault, told_if}
 use Rattle.run_words.specs.Faults.{value_fault, word_fault}
 use Rattle.run_words.specs.FlagLaws.Flags.{SameButFlags, order_with, target_with, with_flags}
 use Rattle.run_words.proofs.JobLaws.FaultLemmas.{fault_of_options}
 
-map_cond : {X Y : Type 0} (f : X → Y) (b : Bool) (x : Option X) → cond b (option_map f x) None ≡ option_map f (cond b x None)
+pub map_cond : {X Y : Type 0} (f : X → Y) (b : Bool) (x : Option X) → cond b (option_map f x) None ≡ option_map f (cond b x None)
 map_cond f true x = refl
 map_cond f false x = refl
 
-map_unless : {X Y : Type 0} (f : X → Y) (b : Bool) (x : Option X) → cond b None (option_map f x) ≡ option_map f (cond b None x)
+pub map_unless : {X Y : Type 0} (f : X → Y) (b : Bool) (x : Option X) → cond b None (option_map f x) ≡ option_map f (cond b None x)
 map_unless f true x = refl
 map_unless f false x = refl
 
@@ -31,6 +32,11 @@ map_unless f false x = refl
 both_fail : (check stored : Bool) → (check ≡ true → stored ≡ false) → (check && stored) ≡ false
 both_fail true stored h = h refl
 both_fail false stored h = refl
+
+-- with a patch none is needed
+pub lacks_same : (sp : Option (List ℕ)) → is_some sp ≡ true → (one two : Bool) → (not (is_some sp) && one) ≡ (not (is_some sp) && two)
+lacks_same None named one two = let wrong : false ≡ true = named in absurd cc
+lacks_same (Some p) named one two = refl
 
 module _ (o : Options) (check quiet : Bool) (patch : is_some o.sp_file ≡ true) (stores : check ≡ true → o.in_place ≡ false)
     (files : check ≡ true → is_some o.generate ≡ false) where
@@ -66,8 +72,8 @@ module _ (o : Options) (check quiet : Bool) (patch : is_some o.sp_file ≡ true)
   -- ---- with a generated text
 
   text_by : (sp : Option (List ℕ)) → is_some sp ≡ true → (seed functions : ℕ) (one two : Option Order)
-      → option_map_or (λ p. Some (Apply p None [] (OnText seed functions quiet))) sp one
-      ≡ option_map (order_with check quiet) (option_map_or (λ p. Some (Apply p None [] (OnText seed functions false))) sp two)
+      → option_map_or (λ p. Some (Apply p None [] (OnText seed functions quiet (told_in o)))) sp one
+      ≡ option_map (order_with check quiet) (option_map_or (λ p. Some (Apply p None [] (OnText seed functions false (told_in o)))) sp two)
   text_by None named seed functions one two = let wrong : false ≡ true = named in absurd cc
   text_by (Some p) named seed functions one two = refl
 
@@ -120,8 +126,8 @@ module _ (o : Options) (check quiet : Bool) (patch : is_some o.sp_file ≡ true)
   working_same : working other ≡ option_map (order_with check quiet) (working plain)
   unfolding working
   working_same =
-      ap (λ (x : Option Order). cond (has_jobs o) x None) (generate_same o.generate refl)
-      ∙ map_cond (order_with check quiet) (has_jobs o) (option_map_or (generating plain) o.generate (editing plain))
+      ap (λ (x : Option Order). cond (has_jobs o && has_unread o) x None) (generate_same o.generate refl)
+      ∙ map_cond (order_with check quiet) (has_jobs o && has_unread o) (option_map_or (generating plain) o.generate (editing plain))
 
   asked_same : (asks : Bool) → cond asks (Some (Say (saying_in o))) (working other)
       ≡ option_map (order_with check quiet) (cond asks (Some (Say (saying_in o))) (working plain))
@@ -135,10 +141,6 @@ module _ (o : Options) (check quiet : Bool) (patch : is_some o.sp_file ≡ true)
       ∙ map_cond (order_with check quiet) (are_filled o) (cond (asks_text o) (Some (Say (saying_in o))) (working plain))
 
   -- ---- faults
-
-  lacks_same : (sp : Option (List ℕ)) → is_some sp ≡ true → (one two : Bool) → (not (is_some sp) && one) ≡ (not (is_some sp) && two)
-  lacks_same None named one two = let wrong : false ≡ true = named in absurd cc
-  lacks_same (Some p) named one two = refl
 
   need_same : need_fault other ≡ need_fault plain
   need_same = ap (λ (b : Bool). first_of (told_if b (Needed need.Patch) ∷ told_if (lacks_file o) (Needed need.File)

@@ -4,7 +4,7 @@ use Rattle.std.proofs.Common.{inl, inr, refl, sym, ap, option_and_then}
 use Rattle.std.specs.List.{list_all}
 use Rattle.std.specs.Str.{is_utf8}
 use Rattle.std.specs.Option.{option_or}
-use Rattle.run_words.specs.declared.option_name.OptionName.TheVariants.{SpFile, IsoFile, Define, Jobs, Generate, Functions}
+use Rattle.run_words.specs.declared.option_name.OptionName.TheVariants.{SpFile, IsoFile, Define, Jobs, Generate, Functions, Unread}
 use Rattle.run_words.specs.declared.fault.Need.TheVariants as need
 use Rattle.run_words.specs.declared.fault.WordFault.{WordFault}
 use Rattle.run_words.specs.declared.fault.WordFault.TheVariants.{BadValue, Needed}
@@ -23,11 +23,11 @@ jobs_good None o e = refl
 jobs_good (Some text) o e = ap (λ (b : Bool). cond b None (Some (BadValue Jobs text))) e
 
 -- a patch is needed for the jobs in both or in neither
-same_need : (patch other quiet one two : Bool) → (one ≡ two) ⊎ (patch ≡ true)
-    → (not patch && (other || (two || quiet))) ≡ (not patch && (other || (one || quiet)))
-same_need patch other quiet one two (inl same) = ap (λ (b : Bool). not patch && (other || (b || quiet))) (sym same)
-same_need true other quiet one two (inr named) = refl
-same_need false other quiet one two (inr named) = let wrong : false ≡ true = named in absurd cc
+same_need : (patch other quiet unread one two : Bool) → (one ≡ two) ⊎ (patch ≡ true)
+    → (not patch && (other || (two || quiet || unread))) ≡ (not patch && (other || (one || quiet || unread)))
+same_need patch other quiet unread one two (inl same) = ap (λ (b : Bool). not patch && (other || (b || quiet || unread))) (sym same)
+same_need true other quiet unread one two (inr named) = refl
+same_need false other quiet unread one two (inr named) = let wrong : false ≡ true = named in absurd cc
 
 module _ (o : Options) (jobs : Option (List ℕ)) (has_one : has_jobs o ≡ true) (has_other : has_jobs (with_jobs jobs o) ≡ true)
     (given : (is_some o.jobs ≡ is_some jobs) ⊎ (is_some o.sp_file ≡ true)) where
@@ -36,12 +36,13 @@ module _ (o : Options) (jobs : Option (List ℕ)) (has_one : has_jobs o ≡ true
 
   value_same : value_fault other ≡ value_fault o
   value_same = ap (λ (f : Option WordFault). first_of (bad_text SpFile o.sp_file ∷ bad_text IsoFile o.iso_file ∷ bad_text Define o.define ∷ f
-      ∷ bad_text Generate o.generate ∷ bad_text Functions o.functions ∷ [])) (jobs_good jobs o has_other ∙ sym (jobs_good o.jobs o has_one))
+      ∷ bad_text Generate o.generate ∷ bad_text Functions o.functions ∷ bad_text Unread o.unread ∷ []))
+      (jobs_good jobs o has_other ∙ sym (jobs_good o.jobs o has_one))
 
   need_same : need_fault other ≡ need_fault o
   need_same = ap (λ (b : Bool). first_of (told_if b (Needed need.Patch) ∷ told_if (not (has_files o) && not (is_some o.generate)) (Needed need.File)
       ∷ told_if (not (is_some o.functions) && is_some o.generate) (Needed need.Functions) ∷ []))
-      (same_need (is_some o.sp_file) (not (is_some o.generate)) o.quiet (is_some o.jobs) (is_some jobs) given)
+      (same_need (is_some o.sp_file) (not (is_some o.generate)) o.quiet (is_some o.unread) (is_some o.jobs) (is_some jobs) given)
 
   pub options_same : options_fault other ≡ options_fault o
   unfolding options_fault

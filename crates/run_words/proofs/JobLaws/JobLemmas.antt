@@ -9,7 +9,7 @@ use Rattle.std.specs.Option.{option_map_or}
 use Rattle.c_lexer.specs.Words.{is_digit}
 use Rattle.run_words.specs.Values.{decimal_value, begins_with_zero, seed_in, count_in}
 use Rattle.run_words.specs.Orders.{OnText, Order, Apply, Generate, Say, asks_text, saying_in, working, most_jobs}
-use Rattle.run_words.specs.Orders.{most_functions, is_filled, are_filled, has_jobs}
+use Rattle.run_words.specs.Orders.{most_functions, is_filled, are_filled, has_jobs, has_unread, told_in}
 use Rattle.run_words.specs.Orders.{is_about_files, editing, on_text, generating, ordered, order_of}
 use Rattle.run_words.specs.JobLaws.Jobs.{with_jobs, SameButJobs}
 
@@ -38,13 +38,13 @@ module _ (o : Options) (jobs : Option (List ℕ)) (has_one : has_jobs o ≡ true
   both_given (Some patch) (inr named) e = absurd cc
 
   text_by : (sp : Option (List ℕ)) → o.sp_file ≡ sp → (seed functions : ℕ)
-      → option_map_or (λ patch. Some (Apply patch None [] (OnText seed functions o.quiet))) sp
-      (cond (is_some jobs || o.quiet) None (Some (Generate seed functions)))
-      ≡ option_map_or (λ patch. Some (Apply patch None [] (OnText seed functions o.quiet))) sp
-      (cond (is_some o.jobs || o.quiet) None (Some (Generate seed functions)))
+      → option_map_or (λ patch. Some (Apply patch None [] (OnText seed functions o.quiet (told_in o)))) sp
+      (cond (is_some jobs || o.quiet || is_some o.unread) None (Some (Generate seed functions)))
+      ≡ option_map_or (λ patch. Some (Apply patch None [] (OnText seed functions o.quiet (told_in o)))) sp
+      (cond (is_some o.jobs || o.quiet || is_some o.unread) None (Some (Generate seed functions)))
   text_by (Some patch) e seed functions = refl
   text_by None e seed functions =
-      ap (λ (b : Bool). cond (b || o.quiet) None (Some (Generate seed functions))) (both_given o.sp_file given e)
+      ap (λ (b : Bool). cond (b || o.quiet || is_some o.unread) None (Some (Generate seed functions))) (both_given o.sp_file given e)
 
   text_same : (seed functions : ℕ) → on_text other seed functions ≡ on_text o seed functions
   text_same seed functions = text_by o.sp_file refl seed functions
@@ -76,14 +76,15 @@ module _ (o : Options) (jobs : Option (List ℕ)) (has_one : has_jobs o ≡ true
 
   pub filled_same : are_filled other ≡ are_filled o
   filled_same =
-      ap (λ (b : Bool). is_filled o.sp_file && is_filled o.iso_file && is_filled o.define && b && is_filled o.generate && is_filled o.functions)
+      ap (λ (b : Bool). is_filled o.sp_file && is_filled o.iso_file && is_filled o.define && b && is_filled o.generate && is_filled o.functions
+      && is_filled o.unread)
       (filled_by jobs o has_other ∙ sym (filled_by o.jobs o has_one))
 
   working_same : working other ≡ working o
   unfolding working
   working_same =
-      ap (λ (b : Bool). cond b (option_map_or (generating other) o.generate (editing other)) None) (has_other ∙ sym has_one)
-      ∙ ap (λ (x : Option Order). cond (has_jobs o) x None) (generate_same o.generate)
+      ap (λ (b : Bool). cond (b && has_unread o) (option_map_or (generating other) o.generate (editing other)) None) (has_other ∙ sym has_one)
+      ∙ ap (λ (x : Option Order). cond (has_jobs o && has_unread o) x None) (generate_same o.generate)
 
   pub ordered_same : ordered other ≡ ordered o
   unfolding ordered

@@ -14,6 +14,7 @@ with_flags check quiet o = record {
   jobs = o.jobs;
   generate = o.generate;
   functions = o.functions;
+  unread = o.unread;
   witnesses = o.witnesses;
   in_place = o.in_place;
   check = check;
@@ -25,8 +26,8 @@ with_flags check quiet o = record {
 
 abbrev pub target_with : Bool → Bool → Target → Target
 target_with check quiet (OnFiles mode names) =
-    OnFiles (record { witnesses = mode.witnesses; in_place = mode.in_place; check = check; quiet = quiet }) names
-target_with check quiet (OnText seed functions old) = OnText seed functions quiet
+    OnFiles (record { witnesses = mode.witnesses; in_place = mode.in_place; check = check; quiet = quiet; unread = mode.unread }) names
+target_with check quiet (OnText seed functions old unread) = OnText seed functions quiet unread
 
 -- the same order, in which files are checked and further lines left out, or aren't
 abbrev pub order_with : Bool → Bool → Order → Order

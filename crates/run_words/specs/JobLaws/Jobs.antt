@@ -14,6 +14,7 @@ with_jobs jobs o = record {
   jobs = jobs;
   generate = o.generate;
   functions = o.functions;
+  unread = o.unread;
   witnesses = o.witnesses;
   in_place = o.in_place;
   check = o.check;

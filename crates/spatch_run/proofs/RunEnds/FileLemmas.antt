@@ -6,14 +6,17 @@ use Rattle.std.specs.FinMap.{get}
 use Rattle.outer_io.specs.Files.{Files}
 use Rattle.smpl_patch.specs.declared.rule.Rule.{Rule}
 use Rattle.smpl_patch.specs.declared.rule.Patch.{Patch}
+use Rattle.run_choices.specs.declared.unread.Unread.{Unread}
+use Rattle.run_choices.specs.declared.unread.Unread.TheVariants as unread
 use Rattle.rule_chain.specs.Chain.{Chain, Outcome}
+use Rattle.rule_chain.specs.Passed.{EndsBy}
 use Rattle.run_acts.specs.Acts.{Act, Load, Report, Observed, after_act, after}
 use Rattle.run_acts.specs.Lines.{cannot_read}
 use Rattle.run_acts.specs.Loaded.{Found}
 use Rattle.run_files.specs.RunLines.Files.{too_long_line}
 use Rattle.run_words.specs.declared.order.Mode.{Mode}
 use Rattle.run_files.specs.Treatment.{Treated, file_limit, IsTreatmentOf, IsFileTreatmentOf, treated_by, told_places, refuses}
-use Rattle.run_files.proofs.TreatLemmas.{chain_places}
+use Rattle.run_files.proofs.TreatLemmas.{text_places}
 use Rattle.run_files.specs.declared.tally.Tally.{Tally}
 use Rattle.run_files.specs.RunStages.Stages.{Course, joined, after_file, told}
 use Rattle.run_files.specs.RunStages.Reasons.{FilesEnd, AllDone, Missing, FilesDo}
@@ -22,6 +25,13 @@ use Rattle.spatch_run.specs.RunEnds.Fates.{AllThere, NoFile, SomeFile}
 use Rattle.spatch_run.proofs.RunLaws.Unique.{not-untold}
 use Rattle.spatch_run.proofs.RunLaws.OnePath.{after_act-observed}
 use Rattle.spatch_run.proofs.RunLaws.Checked.{same_tally}
+
+-- how the chain ends is how the rules end, whatever is told
+pub chain_ends : (choice : Unread) (rules : List Rule) (defined : List (List ℕ)) (bytes : List ℕ) (end : Outcome) → Chain rules defined bytes end
+    → EndsBy choice rules defined bytes end
+chain_ends unread.All rules defined bytes end chain = chain
+chain_ends unread.Needed rules defined bytes end chain = inl chain
+chain_ends unread.None rules defined bytes end chain = inl chain
 
 -- the rules have an outcome over each text
 abbrev pub HaveEnds : List Rule → List (List ℕ) → Type 0
@@ -71,8 +81,12 @@ module _ (patch : Patch) (defined : List (List ℕ)) (mode : Mode) where
     treats_some name bytes = λ absent. elim (order (length bytes) file_limit) [
       | inr long ↦ absent (refuses (too_long_line name), inl (long, refl))
       | inl short ↦ ends bytes (λ e.
-          let places = chain_places patch.rules defined bytes e.0 e.1 in
-          absent (treated_by mode patch name bytes (told_places mode.quiet places.0) e.0, inr (short, (e.0, (e.1, (places.0, (places.1, refl)))))))
+          let places = text_places bytes in
+          let rules_end = chain_ends mode.unread patch.rules defined bytes e.0 e.1 in
+          absent (
+            treated_by mode patch name bytes (told_places mode.quiet places.0) e.0,
+            inr (short, (e.0, (rules_end, (places.0, (places.1, refl))))),
+          ))
     ]
 
     pub files_do : (old : Observed) (names : List (List ℕ)) (course : Course) → Weakly ((acts : List Act) × ((end : FilesEnd) × Does old names course acts end))

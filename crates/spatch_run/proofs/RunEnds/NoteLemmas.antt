@@ -10,13 +10,15 @@ use Rattle.outer_io.specs.Files.{Files}
 use Rattle.c_places.specs.declared.places.TextPlaces.{TextPlaces}
 use Rattle.rule_chain.specs.declared.rule_run.state.SkipNote.{SkipNote}
 use Rattle.rule_chain.specs.Chain.{Outcome, Done, Refused}
-use Rattle.rule_chain.specs.RuleRun.States.{Chained}
+use Rattle.rule_chain.specs.RuleRun.States.{Chained, told_notes}
 use Rattle.wit_print.specs.Report.{report_of}
 use Rattle.run_words.specs.declared.fault.WordFault.{WordFault}
+use Rattle.run_choices.specs.declared.unread.Unread.{Unread}
 use Rattle.run_words.specs.declared.order.Mode.{Mode}
 use Rattle.run_words.specs.Orders.{Target, OnFiles, OnText}
 use Rattle.run_words.specs.Faults.{word_fault}
 use Rattle.run_acts.specs.Acts.{Act, Load, Report, Observed, after}
+use Rattle.run_files.specs.declared.run_lines.notes.NoteLines.{NoteLines}
 use Rattle.run_files.specs.RunLines.Words.{refused_words}
 use Rattle.run_files.specs.RunLines.Summary.{summary}
 use Rattle.run_files.specs.Treatment.{Treated, IsFileTreatmentOf, treated_by, summed_by, told_places, printing, shown, stored_after, note_act}
@@ -28,7 +30,7 @@ use Rattle.run_files.specs.RunStages.Reasons.Reason.{unasked, is_said, is_genera
 use Rattle.run_files.specs.RunStages.Reasons.Reason.{filed}
 use Rattle.spatch_run.specs.RunEnds.Quiet.{says_more, is_note, EndsInNotes}
 use Rattle.spatch_run.proofs.RunLaws.Checked.{status_by}
-use Rattle.spatch_run.proofs.RunEnds.QuietFiles.{AllMore}
+use Rattle.spatch_run.proofs.RunEnds.QuietFiles.{AllMore, AllSayMore}
 use Rattle.spatch_run.proofs.RunEnds.QuietLemmas.{more-ready}
 
 -- none of the acts is a note
@@ -75,16 +77,18 @@ no-treated : (mode : Mode) (patch : Patch) (name bytes : List ℕ) (places : Tex
     → NoNote (treated_by mode patch name bytes places end).acts
 no-treated mode patch name bytes places (Refused fault) = refl
 no-treated mode patch name bytes places (Done s) =
-    no-append (skipped_lines name bytes places s ++ shown mode patch name bytes s) (stored_after mode name bytes s)
-    (no-append (skipped_lines name bytes places s) (shown mode patch name bytes s) (no-skipped name bytes places s.skipped)
+    no-append (skipped_lines mode.unread name bytes places s ++ shown mode patch name bytes s) (stored_after mode name bytes s)
+    (no-append (skipped_lines mode.unread name bytes places s) (shown mode patch name bytes s)
+    (no-skipped name bytes places (told_notes mode.unread s))
     (no-shown mode patch name bytes s))
     (no-stored mode name bytes s)
 
-no-summed : (patch : Patch) (name bytes : List ℕ) (places : TextPlaces) (end : Outcome) → NoNote (summed_by patch name bytes places end).acts
-no-summed patch name bytes places (Refused fault) = refl
-no-summed patch name bytes places (Done s) =
-    no-append (skipped_lines name bytes places s) (printing (summary patch.rules s.found (length s.page.bytes)))
-    (no-skipped name bytes places s.skipped) (no-printing (summary patch.rules s.found (length s.page.bytes)))
+no-summed : (patch : Patch) (choice : Unread) (name bytes : List ℕ) (places : TextPlaces) (end : Outcome)
+    → NoNote (summed_by patch choice name bytes places end).acts
+no-summed patch choice name bytes places (Refused fault) = refl
+no-summed patch choice name bytes places (Done s) =
+    no-append (skipped_lines choice name bytes places s) (printing (summary patch.rules s.found (length s.page.bytes)))
+    (no-skipped name bytes places (told_notes choice s)) (no-printing (summary patch.rules s.found (length s.page.bytes)))
 
 as-treated : (treated other : Treated) → treated ≡ other → NoNote other.acts → NoNote treated.acts
 as-treated treated other is none = ap (λ (t : Treated). list_any is_note t.acts) is ∙ none
@@ -106,11 +110,8 @@ status-calm : (hit : Bool) → (status_by false hit ≡ 0) ⊎ (status_by false 
 status-calm true = inr refl
 status-calm false = inl refl
 
-told-ends : (refused hit found : Bool) (lines : List (List ℕ)) → AllMore lines
-    → EndsInNotes (cond (refused || found) [] (map Report lines)) (status_by refused hit)
-told-ends true hit found lines more = alone [] (status_by true hit) refl
-told-ends false hit true lines more = alone [] (status_by false hit) refl
-told-ends false hit false lines more = record {
+calm-ends : (hit : Bool) (lines : List (List ℕ)) → AllMore lines → EndsInNotes (map Report lines) (status_by false hit)
+calm-ends hit lines more = record {
   first = [];
   notes = map Report lines;
   acts_are = refl;
@@ -118,6 +119,12 @@ told-ends false hit false lines more = record {
   are_notes = all-told lines more;
   calm = inr (status-calm hit);
 }
+
+told-ends : (refused hit found : Bool) (notes : NoteLines) → AllSayMore notes
+    → EndsInNotes (map Report (cond refused [] (cond found notes.always notes.all))) (status_by refused hit)
+told-ends true hit found notes more = alone [] (status_by true hit) refl
+told-ends false hit true notes more = calm-ends hit notes.always more.1
+told-ends false hit false notes more = calm-ends hit notes.all more.0
 
 ends-as : (acts acts' : List Act) (status status' : ℕ) → acts ≡ acts' → status ≡ status' → EndsInNotes acts' status' → EndsInNotes acts status
 ends-as acts acts' status status' e f ends = record {
@@ -148,7 +155,7 @@ after-none acts own rest status none e ends = record {
 }
 
 files-noted : (patch : Patch) (defined : List (List ℕ)) (mode : Mode) (names : List (List ℕ)) (old : Observed) (course : Course)
-    (acts : List Act) (end : FilesEnd) → AllMore course.notes → FilesDo old patch defined mode names course acts end
+    (acts : List Act) (end : FilesEnd) → AllSayMore course.notes → FilesDo old patch defined mode names course acts end
     → EndsInNotes acts (files_status end)
 files-noted patch defined mode [] old course acts end more does =
     ends-as acts (told course) (files_status end) (status_by course.tally.refused course.tally.hit) does.0 (ap files_status does.1)
@@ -165,12 +172,12 @@ files-noted patch defined mode (name ∷ names) old course acts end more (inr so
 -- ---- whole runs
 
 module _ (words : List (List ℕ)) (old : Observed) where
-  isos-none : (patch : Patch) (lines : List (List ℕ)) (name : List ℕ) (under : Option (List ℕ)) (defined : List (List ℕ)) (target : Target)
+  isos-none : (patch : Patch) (lines : NoteLines) (name : List ℕ) (under : Option (List ℕ)) (defined : List (List ℕ)) (target : Target)
       (acts : List Act) → IsosFound words old patch lines name under defined target acts → NoNote acts
   isos-none patch lines name under defined target acts found =
       ap (list_any is_note) (found.acts_are ∙ ap (λ (x : List Act). x ++ Load name patch_limit ∷ []) found.read.acts_are)
 
-  ready-none : (whole : Patch) (lines defined : List (List ℕ)) (target : Target) (acts : List Act)
+  ready-none : (whole : Patch) (lines : NoteLines) (defined : List (List ℕ)) (target : Target) (acts : List Act)
       → PatchReady words old whole lines defined target acts → NoNote acts
   ready-none whole lines defined target acts (plain read) = ap (list_any is_note) read.acts_are
   ready-none whole lines defined target acts (expanded patch name bytes isos found are is) =
@@ -198,10 +205,10 @@ module _ (words : List (List ℕ)) (old : Observed) where
       ended acts before _ status is (isos-none patch lines name (Some bytes) defined target before found) refl
   reason_notes acts status (many_forms patch lines name bytes defined target isos rule before found are many is over) =
       ended acts before _ status is (isos-none patch lines name (Some bytes) defined target before found) refl
-  reason_notes acts status (summed patch lines defined seed functions quiet treated before ready sums is over) =
+  reason_notes acts status (summed patch lines defined seed functions quiet unread treated before ready sums is over) =
       alone acts status (ap (list_any is_note) is
-      ∙ no-append before treated.acts (ready-none patch lines defined (OnText seed functions quiet) before ready)
-      (as-treated treated _ sums.1.1.1.1 (no-summed patch generated_name _ (told_places quiet sums.1.1.0) sums.0)))
+      ∙ no-append before treated.acts (ready-none patch lines defined (OnText seed functions quiet unread) before ready)
+      (as-treated treated _ sums.1.1.1.1.1 (no-summed patch unread generated_name _ (told_places quiet sums.1.1.1.0) sums.1.0)))
   reason_notes acts status (filed patch lines defined mode names before rest end ready does is over) =
       after-none acts before rest status (ready-none patch lines defined (OnFiles mode names) before ready) is
       (ends-as rest rest status (files_status end) refl over (files-noted patch defined mode names old (first_course lines) rest end

@@ -11,12 +11,15 @@ use Rattle.c_places.specs.declared.places.TextPlaces.{TextPlaces}
 use Rattle.rule_chain.specs.declared.rule_run.fault.FileFault.{FileFault}
 use Rattle.rule_chain.specs.declared.rule_run.fault.FileFault.TheVariants.{FileTooLong, Conflict, TooManyWitnesses, TooManyEnvironments, NoMemory}
 use Rattle.rule_chain.specs.declared.rule_run.state.SkipNote.{SkipNote}
-use Rattle.rule_chain.specs.RuleRun.States.{Chained}
+use Rattle.rule_chain.specs.RuleRun.States.{Chained, told_notes}
 use Rattle.rule_chain.specs.Chain.{Outcome, Done, Refused}
 use Rattle.wit_print.specs.Report.{report_of}
 use Rattle.run_acts.specs.Acts.{Act, Load, Store, Print, Report, Observed, after_act, after}
 use Rattle.run_acts.specs.Loaded.{Found}
+use Rattle.run_choices.specs.declared.unread.Unread.{Unread}
 use Rattle.run_words.specs.declared.order.Mode.{Mode}
+use Rattle.run_files.specs.declared.run_lines.notes.NoteLines.{NoteLines}
+use Rattle.run_files.specs.RunLines.Notes.{no_lines}
 use Rattle.run_files.specs.RunLines.Summary.{summary}
 use Rattle.run_files.specs.RunLines.Files.{refused_line, skipped_line, fault_text, fault_there, fault_place, note_place, why_text}
 use Rattle.run_files.specs.RunLines.Further.{further_at, placed}
@@ -104,24 +107,26 @@ module _ (patch : Patch) (name bytes : List ℕ) (places : TextPlaces) where
       → hushed (treated_by mode patch name bytes places end) ≡ treated_by (quiet_mode mode) patch name bytes no_places end
   hushed-treated mode (Refused fault) = hushed-fault name bytes places fault
   hushed-treated mode (Done s) =
-      let skipped = skipped_lines name bytes places s in
-      let left : quieted (skipped ++ shown mode patch name bytes s) ≡ skipped_lines name bytes no_places s ++ shown mode patch name bytes s
+      let skipped = skipped_lines mode.unread name bytes places s in
+      let left : quieted (skipped ++ shown mode patch name bytes s)
+      ≡ skipped_lines mode.unread name bytes no_places s ++ shown mode patch name bytes s
       = quieted-append skipped (shown mode patch name bytes s)
-      ∙ (λ i. hushed-notes name bytes places s.skipped i ++ quieted-shown mode patch name bytes s i) in
+      ∙ (λ i. hushed-notes name bytes places (told_notes mode.unread s) i ++ quieted-shown mode patch name bytes s i) in
       let same : quieted (skipped ++ shown mode patch name bytes s ++ stored_after mode name bytes s)
-      ≡ skipped_lines name bytes no_places s ++ shown mode patch name bytes s ++ stored_after mode name bytes s
+      ≡ skipped_lines mode.unread name bytes no_places s ++ shown mode patch name bytes s ++ stored_after mode name bytes s
       = quieted-append (skipped ++ shown mode patch name bytes s) (stored_after mode name bytes s)
       ∙ (λ i. left i ++ quieted-stored mode name bytes s i) in
       λ i. record { acts = same i; tally = (treated_by mode patch name bytes places (Done s)).tally }
 
-  hushed-summed : (end : Outcome) → hushed (summed_by patch name bytes places end) ≡ summed_by patch name bytes no_places end
-  hushed-summed (Refused fault) = hushed-fault name bytes places fault
-  hushed-summed (Done s) =
+  hushed-summed : (choice : Unread) (end : Outcome)
+      → hushed (summed_by patch choice name bytes places end) ≡ summed_by patch choice name bytes no_places end
+  hushed-summed choice (Refused fault) = hushed-fault name bytes places fault
+  hushed-summed choice (Done s) =
       let rest = printing (summary patch.rules s.found (length s.page.bytes)) in
-      let same : quieted (skipped_lines name bytes places s ++ rest) ≡ skipped_lines name bytes no_places s ++ rest
-      = quieted-append (skipped_lines name bytes places s) rest
-      ∙ (λ i. hushed-notes name bytes places s.skipped i ++ quieted-printing (summary patch.rules s.found (length s.page.bytes)) i) in
-      λ i. record { acts = same i; tally = (summed_by patch name bytes places (Done s)).tally }
+      let same : quieted (skipped_lines choice name bytes places s ++ rest) ≡ skipped_lines choice name bytes no_places s ++ rest
+      = quieted-append (skipped_lines choice name bytes places s) rest
+      ∙ (λ i. hushed-notes name bytes places (told_notes choice s) i ++ quieted-printing (summary patch.rules s.found (length s.page.bytes)) i) in
+      λ i. record { acts = same i; tally = (summed_by patch choice name bytes places (Done s)).tally }
 
 -- one line, if it has no more
 hushed-alone : (name text : List ℕ) → IsPlain text → hushed (refuses (line_about name text)) ≡ refuses (line_about name text)
@@ -153,11 +158,12 @@ hushed-file holds mode patch defined name bytes treated (inl (inr short)) =
 hushed-file holds mode patch defined name bytes treated (inr special) =
     inr (special.0, ap hushed special.1 ∙ hushed-alone name (codes "refused: no regular file") refl)
 
-pub hushed-sums : (patch : Patch) (defined : List (List ℕ)) (quiet : Bool) (name bytes : List ℕ) (treated : Treated)
-    → Sums patch defined quiet name bytes treated → Sums patch defined true name bytes (hushed treated)
-hushed-sums patch defined quiet name bytes treated sums =
-    let places = sums.1.1.0 in
-    (sums.0, (sums.1.0, (places, (sums.1.1.1.0, ap hushed sums.1.1.1.1 ∙ hushed-summed patch name bytes (told_places quiet places) sums.0))))
+pub hushed-sums : (patch : Patch) (defined : List (List ℕ)) (quiet : Bool) (choice : Unread) (name bytes : List ℕ) (treated : Treated)
+    → Sums patch defined quiet choice name bytes treated → Sums patch defined true choice name bytes (hushed treated)
+hushed-sums patch defined quiet choice name bytes treated sums =
+    let it = sums.1 in
+    let places = it.1.1.0 in
+    (sums.0, (it.0, (it.1.0, (places, (it.1.1.1.0, ap hushed it.1.1.1.1 ∙ hushed-summed patch name bytes (told_places quiet places) choice it.0)))))
 
 -- ---- notes
 
@@ -166,20 +172,25 @@ abbrev pub AllMore : List (List ℕ) → Type 0
 AllMore [] = Unit {0}
 AllMore (line ∷ lines) = (says_more line ≡ true) × AllMore lines
 
+abbrev pub AllSayMore : NoteLines → Type 0
+AllSayMore notes = AllMore notes.all × AllMore notes.always
+
 none-left : (lines : List (List ℕ)) → AllMore lines → quieted (map Report lines) ≡ []
 none-left [] more = refl
 none-left (line ∷ lines) more = λ i. (if more.0 i then [] else Report (first_line line) ∷ []) ++ none-left lines more.1 i
 
 -- the same tally, and no notes
 abbrev pub silent : Tally → Course
-silent tally = record { tally = tally; notes = [] }
+silent tally = record { tally = tally; notes = no_lines }
 
-none-told : (course : Course) → AllMore course.notes → quieted (told course) ≡ told (silent course.tally)
-none-told course more = by (course.tally.refused || course.tally.found)
+none-told : (course : Course) → AllSayMore course.notes → quieted (told course) ≡ told (silent course.tally)
+none-told course more = by course.tally.refused course.tally.found
   where
-    by : (quiet : Bool) → quieted (cond quiet [] (map Report course.notes)) ≡ cond quiet [] []
-    by true = refl
-    by false = none-left course.notes more
+    by : (refused found : Bool) → quieted (map Report (cond refused [] (cond found course.notes.always course.notes.all)))
+        ≡ map Report (cond refused [] (cond found no_lines.always no_lines.all))
+    by true found = refl
+    by false true = none-left course.notes.always more.1
+    by false false = none-left course.notes.all more.0
 
 -- ---- files in turn
 
@@ -209,7 +220,7 @@ loaded : (name : List ℕ) (acts own rest : List Act) → acts ≡ Load name fil
 loaded name acts own rest is = ap quieted is ∙ ap (λ (x : List Act). Load name file_limit ∷ x) (quieted-append own rest)
 
 pub files-quiet : (patch : Patch) (defined : List (List ℕ)) (mode : Mode) (names : List (List ℕ)) (old other : Observed) (course : Course)
-    (acts : List Act) (end : FilesEnd) → other.files ≡ old.files → AllMore course.notes → FilesDo old patch defined mode names course acts end
+    (acts : List Act) (end : FilesEnd) → other.files ≡ old.files → AllSayMore course.notes → FilesDo old patch defined mode names course acts end
     → FilesDo other patch defined (quiet_mode mode) names (silent course.tally) (quieted acts) end
 files-quiet patch defined mode [] old other course acts end same more does = (ap quieted does.0 ∙ none-told course more, does.1)
 files-quiet patch defined mode (name ∷ names) old other course acts end same more (inl gone) =

@@ -14,8 +14,9 @@ use Rattle.sp_gen.specs.Generated.{generated}
 use Rattle.run_acts.specs.Acts.{Act, Load, Report, Observed}
 use Rattle.run_acts.specs.Lines.{cannot_read}
 use Rattle.run_words.specs.Orders.{Target, OnFiles, OnText, Order, Apply, Generate, Say, order_of, is_quiet}
+use Rattle.run_files.specs.declared.run_lines.notes.NoteLines.{NoteLines}
 use Rattle.run_files.specs.RunLines.Further.{further_at, placed, told_place}
-use Rattle.run_files.specs.RunLines.Notes.{note_line, note_lines}
+use Rattle.run_files.specs.RunLines.Notes.{note_line, note_lines, no_lines}
 use Rattle.run_files.specs.RunLines.Patches.{begun, fault_place_text, fault_sentence, patch_fault_line, iso_fault_line, iso_fault_text, iso_sentence}
 use Rattle.run_files.specs.RunLines.Patches.{forms_line, iso_byte}
 use Rattle.run_files.specs.RunStages.Stages.{patch_limit, generated_name, first_course}
@@ -27,7 +28,7 @@ use Rattle.spatch_run.specs.RunEnds.Quiet.{says_more, kept, quieted, quiet_mode,
 use Rattle.spatch_run.proofs.RunLaws.Unique.{none_some, same_some}
 use Rattle.spatch_run.proofs.RunLaws.Checked.{status_by}
 use Rattle.spatch_run.proofs.RunEnds.QuietLines.{kept-alone, kept-read, plain-decimal, plain-iso}
-use Rattle.spatch_run.proofs.RunEnds.QuietFiles.{quieted-append, kept-line, hushed, hushed-sums, AllMore, files-quiet}
+use Rattle.spatch_run.proofs.RunEnds.QuietFiles.{quieted-append, kept-line, hushed, hushed-sums, AllMore, AllSayMore, files-quiet}
 
 -- ---- notes
 
@@ -37,28 +38,28 @@ all-noted name (NoSign ∷ notes) = (refl, all-noted name notes)
 all-noted name (InRule rule None slip ∷ notes) = (refl, all-noted name notes)
 all-noted name (InRule rule (Some place) slip ∷ notes) = (refl, all-noted name notes)
 
-unless_quiet : (quiet : Bool) (lines : List (List ℕ)) → AllMore lines → AllMore (cond quiet [] lines)
-unless_quiet true lines all = tt
+unless_quiet : (quiet : Bool) (lines : NoteLines) → AllSayMore lines → AllSayMore (cond quiet no_lines lines)
+unless_quiet true lines all = (tt, tt)
 unless_quiet false lines all = all
 
-all-more : (name : List ℕ) (has_isos : Bool) (target : Target) (notes : List Note) → AllMore (note_lines name has_isos target notes)
-all-more name has_isos (OnFiles mode names) notes = unless_quiet mode.quiet _ (all-noted name _)
-all-more name has_isos (OnText seed functions quiet) notes = tt
+all-more : (name : List ℕ) (has_isos : Bool) (target : Target) (notes : List Note) → AllSayMore (note_lines name has_isos target notes)
+all-more name has_isos (OnFiles mode names) notes = unless_quiet mode.quiet _ (all-noted name _, all-noted name _)
+all-more name has_isos (OnText seed functions quiet unread) notes = (tt, tt)
 
 -- the lines of the notes on a patch that is ready say more
-pub more-ready : (words : List (List ℕ)) (old : Observed) (whole : Patch) (lines defined : List (List ℕ)) (target : Target) (acts : List Act)
-    → PatchReady words old whole lines defined target acts → AllMore lines
-more-ready words old whole lines defined target acts (plain read) = subst AllMore (sym read.lines_are) (all-more read.name false target read.notes)
+pub more-ready : (words : List (List ℕ)) (old : Observed) (whole : Patch) (lines : NoteLines) (defined : List (List ℕ)) (target : Target) (acts : List Act)
+    → PatchReady words old whole lines defined target acts → AllSayMore lines
+more-ready words old whole lines defined target acts (plain read) = subst AllSayMore (sym read.lines_are) (all-more read.name false target read.notes)
 more-ready words old whole lines defined target acts (expanded patch name bytes isos found are is) =
-    subst AllMore (sym found.read.lines_are) (all-more found.read.name true target found.read.notes)
+    subst AllSayMore (sym found.read.lines_are) (all-more found.read.name true target found.read.notes)
 
-no-notes : (name : List ℕ) (has_isos : Bool) (target : Target) (notes : List Note) → note_lines name has_isos (quiet_target target) notes ≡ []
+no-notes : (name : List ℕ) (has_isos : Bool) (target : Target) (notes : List Note) → note_lines name has_isos (quiet_target target) notes ≡ no_lines
 no-notes name has_isos (OnFiles mode names) notes = refl
-no-notes name has_isos (OnText seed functions quiet) notes = refl
+no-notes name has_isos (OnText seed functions quiet unread) notes = refl
 
 hushes : (target : Target) → is_quiet (quiet_target target) ≡ true
 hushes (OnFiles mode names) = refl
-hushes (OnText seed functions quiet) = refl
+hushes (OnText seed functions quiet unread) = refl
 
 -- ---- the acts at the end
 
@@ -94,8 +95,8 @@ module _ (words others : List (List ℕ)) (same : SameButQuiet words others) (ol
       → PatchFound words old name under isos defined target → PatchFound others old name under isos defined (quiet_target target)
   found_quiet name under isos defined target found = record { order = asks (Apply name isos defined target) found.order; found = found.found }
 
-  read_quiet : (patch : Patch) (lines : List (List ℕ)) (isos : Option (List ℕ)) (defined : List (List ℕ)) (target : Target) (acts : List Act)
-      → PatchRead words old patch lines isos defined target acts → PatchRead others old patch [] isos defined (quiet_target target) acts
+  read_quiet : (patch : Patch) (lines : NoteLines) (isos : Option (List ℕ)) (defined : List (List ℕ)) (target : Target) (acts : List Act)
+      → PatchRead words old patch lines isos defined target acts → PatchRead others old patch no_lines isos defined (quiet_target target) acts
   read_quiet patch lines isos defined target acts read = record {
     name = read.name;
     bytes = read.bytes;
@@ -107,9 +108,9 @@ module _ (words others : List (List ℕ)) (same : SameButQuiet words others) (ol
     acts_are = read.acts_are;
   }
 
-  isos_quiet : (patch : Patch) (lines : List (List ℕ)) (name : List ℕ) (under : Option (List ℕ)) (defined : List (List ℕ)) (target : Target)
+  isos_quiet : (patch : Patch) (lines : NoteLines) (name : List ℕ) (under : Option (List ℕ)) (defined : List (List ℕ)) (target : Target)
       (acts : List Act) → IsosFound words old patch lines name under defined target acts
-      → IsosFound others old patch [] name under defined (quiet_target target) acts
+      → IsosFound others old patch no_lines name under defined (quiet_target target) acts
   isos_quiet patch lines name under defined target acts found = record {
     before = found.before;
     read = read_quiet patch lines (Some name) defined target found.before found.read;
@@ -117,22 +118,22 @@ module _ (words others : List (List ℕ)) (same : SameButQuiet words others) (ol
     acts_are = found.acts_are;
   }
 
-  ready_quiet : (whole : Patch) (lines defined : List (List ℕ)) (target : Target) (acts : List Act)
-      → PatchReady words old whole lines defined target acts → PatchReady others old whole [] defined (quiet_target target) acts
+  ready_quiet : (whole : Patch) (lines : NoteLines) (defined : List (List ℕ)) (target : Target) (acts : List Act)
+      → PatchReady words old whole lines defined target acts → PatchReady others old whole no_lines defined (quiet_target target) acts
   ready_quiet whole lines defined target acts (plain read) = plain (read_quiet whole lines None defined target acts read)
   ready_quiet whole lines defined target acts (expanded patch name bytes isos found are is) =
       expanded patch name bytes isos (isos_quiet patch lines name (Some bytes) defined target acts found) are is
 
   -- ---- the acts before the files
 
-  isos_left : (patch : Patch) (lines : List (List ℕ)) (name : List ℕ) (under : Option (List ℕ)) (defined : List (List ℕ)) (target : Target)
+  isos_left : (patch : Patch) (lines : NoteLines) (name : List ℕ) (under : Option (List ℕ)) (defined : List (List ℕ)) (target : Target)
       (acts : List Act) → IsosFound words old patch lines name under defined target acts → quieted acts ≡ acts
   isos_left patch lines name under defined target acts found =
       let is : acts ≡ Load found.read.name patch_limit ∷ Load name patch_limit ∷ []
       = found.acts_are ∙ ap (λ (x : List Act). x ++ Load name patch_limit ∷ []) found.read.acts_are in
       ap quieted is ∙ sym is
 
-  ready_left : (whole : Patch) (lines defined : List (List ℕ)) (target : Target) (acts : List Act)
+  ready_left : (whole : Patch) (lines : NoteLines) (defined : List (List ℕ)) (target : Target) (acts : List Act)
       → PatchReady words old whole lines defined target acts → quieted acts ≡ acts
   ready_left whole lines defined target acts (plain read) = ap quieted read.acts_are ∙ sym read.acts_are
   ready_left whole lines defined target acts (expanded patch name bytes isos found are is) =
@@ -150,25 +151,26 @@ module _ (words others : List (List ℕ)) (same : SameButQuiet words others) (ol
       (left (Load name patch_limit ∷ []) (Report (cannot_read name)) (Report (cannot_read name)) acts refl (kept-read name) is) over
   reason_quiet acts status (bad_patch name bytes isos defined target fault at found first there is over) not = absurd (not over)
   reason_quiet acts status (no_isos patch lines name defined target before found is over) not =
-      no_isos patch [] name defined (quiet_target target) before (isos_quiet patch lines name None defined target before found)
+      no_isos patch no_lines name defined (quiet_target target) before (isos_quiet patch lines name None defined target before found)
       (left before (Report (cannot_read name)) (Report (cannot_read name)) acts (isos_left patch lines name None defined target before found)
       (kept-read name) is) over
   reason_quiet acts status (bad_isos patch lines name bytes defined target fault before found first is over) not =
-      bad_isos patch [] name bytes defined (quiet_target target) fault before (isos_quiet patch lines name (Some bytes) defined target before found) first
+      bad_isos patch no_lines name bytes defined (quiet_target target) fault before (isos_quiet patch lines name (Some bytes) defined target before found) first
       (left before _ _ acts (isos_left patch lines name (Some bytes) defined target before found)
       (iso_line name target (placed bytes (iso_byte fault)) fault) is) over
   reason_quiet acts status (many_forms patch lines name bytes defined target isos rule before found are many is over) not =
-      many_forms patch [] name bytes defined (quiet_target target) isos rule before (isos_quiet patch lines name (Some bytes) defined target before found)
+      many_forms patch no_lines name bytes defined (quiet_target target) isos rule before (isos_quiet patch lines name (Some bytes) defined target before found)
       are many (left before (Report (forms_line name rule)) (Report (forms_line name rule)) acts
       (isos_left patch lines name (Some bytes) defined target before found)
       (kept-alone name (codes "too many forms in rule " ++ decimal rule) (plain-decimal rule)) is) over
-  reason_quiet acts status (summed patch lines defined seed functions quiet treated before ready sums is over) not =
-      summed patch [] defined seed functions true (hushed treated) before (ready_quiet patch lines defined (OnText seed functions quiet) before ready)
-      (hushed-sums patch defined quiet generated_name (generated seed functions) treated sums)
+  reason_quiet acts status (summed patch lines defined seed functions quiet unread treated before ready sums is over) not =
+      summed patch no_lines defined seed functions true unread (hushed treated) before
+      (ready_quiet patch lines defined (OnText seed functions quiet unread) before ready)
+      (hushed-sums patch defined quiet unread generated_name (generated seed functions) treated sums)
       (ap quieted is ∙ quieted-append before treated.acts
-      ∙ ap (λ (x : List Act). x ++ quieted treated.acts) (ready_left patch lines defined (OnText seed functions quiet) before ready)) over
+      ∙ ap (λ (x : List Act). x ++ quieted treated.acts) (ready_left patch lines defined (OnText seed functions quiet unread) before ready)) over
   reason_quiet acts status (filed patch lines defined mode names before rest end ready does is over) not =
-      filed patch [] defined (quiet_mode mode) names before (quieted rest) end (ready_quiet patch lines defined (OnFiles mode names) before ready)
+      filed patch no_lines defined (quiet_mode mode) names before (quieted rest) end (ready_quiet patch lines defined (OnFiles mode names) before ready)
       (files-quiet patch defined mode names old old (first_course lines) rest end refl
       (more-ready words old patch lines defined (OnFiles mode names) before ready) does)
       (ap quieted is ∙ quieted-append before rest
@@ -203,7 +205,7 @@ module _ (words others : List (List ℕ)) (same : SameButQuiet words others) (ol
   fault_quiet acts status (bad_isos patch lines name bytes defined target fault before found first is over) two = absurd (omega (arith, over, two))
   fault_quiet acts status (many_forms patch lines name bytes defined target isos rule before found are many is over) two =
       absurd (omega (arith, over, two))
-  fault_quiet acts status (summed patch lines defined seed functions quiet treated before ready sums is over) two =
+  fault_quiet acts status (summed patch lines defined seed functions quiet unread treated before ready sums is over) two =
       absurd (not_two treated.tally.refused treated.tally.hit (sym over ∙ two))
   fault_quiet acts status (filed patch lines defined mode names before rest (AllDone tally) ready does is over) two =
       absurd (not_two tally.refused tally.hit (sym over ∙ two))

@@ -1,5 +1,5 @@
 -- Words have acts with a reason.
-use Rattle.std.proofs.Common.{◌≡◌, ◌⊎◌, ℕ, Option, Some, None, is_some, List, [], ◌∷◌, ◌++◌, inl, inr, refl}
+use Rattle.std.proofs.Common.{◌≡◌, ◌≤◌, ◌⊎◌, ℕ, Bool, Option, Some, None, is_some, List, [], ◌∷◌, ◌++◌, inl, inr, refl}
 use Rattle.smpl_patch.specs.declared.rule.Iso.{Iso}
 use Rattle.smpl_patch.specs.declared.rule.Patch.{Patch}
 use Rattle.smpl_patch.specs.declared.fault.PatchFault.{PatchFault}
@@ -8,10 +8,13 @@ use Rattle.iso_file.specs.declared.fault.IsoFault.{IsoFault}
 use Rattle.iso_file.specs.Isos.{AreIsosOf, IsFileFault}
 use Rattle.iso_expand.specs.Patches.{IsExpanded, IsFirstMany}
 use Rattle.sp_gen.specs.Generated.{generated}
+use Rattle.sp_gen.proofs.Lengths.{short_enough}
+use Rattle.run_choices.specs.declared.unread.Unread.{Unread}
 use Rattle.rule_chain.specs.Chain.{Chain, Outcome}
 use Rattle.run_acts.specs.Acts.{Act, Load, Print, Report, Observed}
 use Rattle.run_acts.specs.Lines.{cannot_read}
 use Rattle.run_acts.specs.Loaded.{Found}
+use Rattle.run_files.specs.declared.run_lines.notes.NoteLines.{NoteLines}
 use Rattle.run_files.specs.RunLines.Words.{refused_words, said}
 use Rattle.run_files.specs.RunLines.Patches.{patch_fault_line, iso_fault_line, forms_line, iso_byte}
 use Rattle.run_words.specs.Orders.{Target, OnFiles, OnText, Order, Apply, Generate, Say, order_of, is_quiet}
@@ -23,13 +26,14 @@ use Rattle.run_files.specs.RunLines.Further.{placed, told_place}
 use Rattle.run_files.specs.RunLines.Notes.{note_lines}
 use Rattle.run_files.specs.Treatment.{Treated, summed_by, told_places}
 use Rattle.run_files.specs.RunStages.Stages.{patch_limit, generated_name, first_course, end_status}
-use Rattle.run_files.proofs.TreatLemmas.{chain_places}
+use Rattle.run_files.proofs.TreatLemmas.{text_places}
 use Rattle.run_files.specs.RunStages.Reasons.{PatchFound, PatchRead, IsosFound, PatchReady, Reason, files_status}
 use Rattle.run_files.specs.RunStages.Reasons.PatchReady.{plain, expanded}
 use Rattle.run_files.specs.RunStages.Reasons.Reason.{unasked, is_said, is_generated, no_patch, bad_patch, no_isos, bad_isos, many_forms, summed}
 use Rattle.run_files.specs.RunStages.Reasons.Reason.{filed}
 use Rattle.text_laws.specs.ChainTotal.Weakly.{Weakly}
-use Rattle.spatch_run.proofs.RunEnds.FileLemmas.{HaveEnds, found_some, files_do}
+use Rattle.spatch_run.proofs.Few.{few_text}
+use Rattle.spatch_run.proofs.RunEnds.FileLemmas.{HaveEnds, chain_ends, found_some, files_do}
 
 abbrev pub PatchLaw : Type 0
 PatchLaw = (bytes : List ℕ) → ((patch : Patch) → IsPatchOf bytes patch → ⊥) → ((fault : PatchFault) → IsFirstFault bytes fault → ⊥) → ⊥
@@ -55,32 +59,47 @@ ExpandedLaw = (bytes : List ℕ) (isos : List Iso) (patch whole : Patch) (define
     → IsExpanded isos patch whole → Weakly ((end : Outcome) × Chain whole.rules defined text end)
 
 -- the rules of a patch that is ready have an outcome over each text
-pub ready_ends : ReadLaw → ExpandedLaw → (words : List (List ℕ)) (old : Observed) (patch : Patch) (lines defined : List (List ℕ)) (target : Target)
-    (acts : List Act) → PatchReady words old patch lines defined target acts → HaveEnds patch.rules defined
+pub ready_ends : ReadLaw → ExpandedLaw → (words : List (List ℕ)) (old : Observed) (patch : Patch) (lines : NoteLines)
+    (defined : List (List ℕ)) (target : Target) (acts : List Act) → PatchReady words old patch lines defined target acts → HaveEnds patch.rules defined
 ready_ends read forms words old patch lines defined target acts (plain r) = λ text. read r.bytes patch defined text r.is.spelled
 ready_ends read forms words old patch lines defined target acts (expanded first name bytes isos found are is) =
     λ text. forms found.read.bytes isos first patch defined text found.read.is.spelled is
+
+-- a generated text that the patch is ready for has at most so many functions
+ready_few : (words : List (List ℕ)) (old : Observed) (patch : Patch) (lines : NoteLines) (defined : List (List ℕ)) (seed functions : ℕ) (quiet : Bool)
+    (unread : Unread) (acts : List Act) → PatchReady words old patch lines defined (OnText seed functions quiet unread) acts → functions ≤ 100000
+ready_few words old patch lines defined seed functions quiet unread acts (plain read) =
+    few_text words read.name None defined seed functions quiet unread read.found.order
+ready_few words old patch lines defined seed functions quiet unread acts (expanded first name bytes isos found are is) =
+    few_text words found.read.name (Some name) defined seed functions quiet unread found.read.found.order
 
 module _ (patch_law : PatchLaw) (place_law : PlaceLaw) (notes_law : NotesLaw) (isos_law : IsosLaw) (forms_law : FormsLaw) (read_law : ReadLaw)
     (expanded_law : ExpandedLaw) (words : List (List ℕ))
     (old : Observed) (absent : ((acts : List Act) × ((status : ℕ) × Reason words old acts status)) → ⊥) where
   -- the patch has all its forms
-  target_by : (patch : Patch) (lines defined : List (List ℕ)) (target : Target) (before : List Act) → PatchReady words old patch lines defined target before → ⊥
+  target_by : (patch : Patch) (lines : NoteLines) (defined : List (List ℕ)) (target : Target) (before : List Act)
+      → PatchReady words old patch lines defined target before → ⊥
   target_by patch lines defined (OnFiles mode names) before ready =
       files_do patch defined mode (ready_ends read_law expanded_law words old patch lines defined
       (OnFiles mode names) before ready) old names (first_course lines)
       (λ rest. absent (before ++ rest.0, (files_status rest.1.0, filed patch lines defined mode names before rest.0 rest.1.0 ready rest.1.1 refl refl)))
-  target_by patch lines defined (OnText seed functions quiet) before ready =
-      ready_ends read_law expanded_law words old patch lines defined (OnText seed functions quiet) before ready (generated seed functions)
+  target_by patch lines defined (OnText seed functions quiet unread) before ready =
+      ready_ends read_law expanded_law words old patch lines defined (OnText seed functions quiet unread) before ready (generated seed functions)
       (λ e.
-      let places = chain_places patch.rules defined (generated seed functions) e.0 e.1 in
-      let treated : Treated = summed_by patch generated_name (generated seed functions) (told_places quiet places.0) e.0 in
+      let text = generated seed functions in
+      let places = text_places text in
+      let treated : Treated = summed_by patch unread generated_name text (told_places quiet places.0) e.0 in
+      let ends = chain_ends unread patch.rules defined text e.0 e.1 in
+      let short = short_enough seed functions (ready_few words old patch lines defined seed functions quiet unread before ready) in
       absent (
         before ++ treated.acts,
-        (end_status treated.tally, summed patch lines defined seed functions quiet treated before ready (e.0, (e.1, (places.0, (places.1, refl)))) refl refl),
+        (
+          end_status treated.tally,
+          summed patch lines defined seed functions quiet unread treated before ready (short, (e.0, (ends, (places.0, (places.1, refl))))) refl refl,
+        ),
       ))
 
-  isos_by : (patch : Patch) (lines : List (List ℕ)) (name : List ℕ) (defined : List (List ℕ)) (target : Target) (before : List Act)
+  isos_by : (patch : Patch) (lines : NoteLines) (name : List ℕ) (defined : List (List ℕ)) (target : Target) (before : List Act)
       → PatchRead words old patch lines (Some name) defined target before → (under : Option (List ℕ)) → Found old.files name under → ⊥
   isos_by patch lines name defined target before read None found =
       let loaded : List Act = before ++ Load name patch_limit ∷ [] in
@@ -107,7 +126,7 @@ module _ (patch_law : PatchLaw) (place_law : PlaceLaw) (notes_law : NotesLaw) (i
         (3, bad_isos patch lines name bytes defined target fault loaded is wrong refl refl),
       ))
 
-  read_by : (patch : Patch) (lines : List (List ℕ)) (isos : Option (List ℕ)) (defined : List (List ℕ)) (target : Target) (before : List Act)
+  read_by : (patch : Patch) (lines : NoteLines) (isos : Option (List ℕ)) (defined : List (List ℕ)) (target : Target) (before : List Act)
       → PatchRead words old patch lines isos defined target before → ⊥
   read_by patch lines None defined target before read = target_by patch lines defined target before (plain read)
   read_by patch lines (Some name) defined target before read =
@@ -125,7 +144,7 @@ module _ (patch_law : PatchLaw) (place_law : PlaceLaw) (notes_law : NotesLaw) (i
       patch_law bytes
       (λ patch read.
       let noted = notes_law bytes patch read in
-      let lines : List (List ℕ) = note_lines name (is_some isos) target noted.0 in
+      let lines : NoteLines = note_lines name (is_some isos) target noted.0 in
       read_by patch lines isos defined target (Load name patch_limit ∷ []) (record {
         name = name;
         bytes = bytes;

@@ -6,6 +6,7 @@ use Rattle.run_acts.specs.Acts.{Act, Observed}
 use Rattle.run_acts.specs.Breaks.{Counts, NoneRose}
 use Rattle.run_words.specs.declared.order.Mode.{Mode}
 use Rattle.run_words.specs.Orders.{OnFiles}
+use Rattle.run_files.specs.declared.run_lines.notes.NoteLines.{NoteLines}
 use Rattle.run_files.specs.declared.tally.Tally.{Tally}
 use Rattle.run_files.specs.RunStages.Stages.{first_course, end_status}
 use Rattle.run_files.specs.RunStages.Causes.{Causes}
@@ -50,7 +51,7 @@ hit_joins : Joins (λ tally. tally.hit)
 hit_joins one other = refl
 
 module _ (read_law : ReadLaw) (expanded_law : ExpandedLaw) (words : List (List ℕ)) (before now : Counts) (old new : Observed) (status : ℕ) (patch : Patch)
-    (lines defined : List (List ℕ)) (mode : Mode) (names : List (List ℕ)) (acts : List Act) (some : IsSome old.files) (calm : NoneRose before now)
+    (lines : NoteLines) (defined : List (List ℕ)) (mode : Mode) (names : List (List ℕ)) (acts : List Act) (some : IsSome old.files) (calm : NoneRose before now)
     (causes : Causes words before now old new status) (ready : PatchReady words old patch lines defined (OnFiles mode names) acts)
     (there : AllThere patch defined mode old names) where
   ends : HaveEnds patch.rules defined

@@ -6,8 +6,10 @@ use Rattle.smpl_patch.specs.declared.rule.Patch.{Patch}
 use Rattle.rule_chain.specs.Chain.{Outcome, Done, Refused}
 use Rattle.c_places.specs.declared.places.TextPlaces.{TextPlaces}
 use Rattle.run_acts.specs.Acts.{Act, Observed, after}
+use Rattle.run_choices.specs.declared.unread.Unread.{Unread}
 use Rattle.run_words.specs.declared.order.Mode.{Mode}
 use Rattle.run_words.specs.Orders.{OnFiles}
+use Rattle.run_files.specs.declared.run_lines.notes.NoteLines.{NoteLines}
 use Rattle.run_files.specs.declared.tally.Tally.{Tally}
 use Rattle.run_files.specs.Treatment.{Treated, IsFileTreatmentOf, treated_by, summed_by, told_places}
 use Rattle.run_files.specs.RunStages.Stages.{Course, first_course, after_file, generated_name}
@@ -43,9 +45,10 @@ hit_checked holds mode patch defined name bytes treated (inl (inr short)) hit =
     checked_by mode patch name bytes (told_places mode.quiet short.1.1.1.0) short.1.0 (sym (ap (λ (t : Treated). t.tally.hit) short.1.1.1.1.1) ∙ hit)
 hit_checked holds mode patch defined name bytes treated (inr special) hit = absurd (not_hit treated _ special.1 refl hit)
 
-no_sum_hit : (patch : Patch) (name bytes : List ℕ) (places : TextPlaces) (end : Outcome) → (summed_by patch name bytes places end).tally.hit ≡ false
-no_sum_hit patch name bytes places (Done s) = refl
-no_sum_hit patch name bytes places (Refused fault) = refl
+no_sum_hit : (patch : Patch) (choice : Unread) (name bytes : List ℕ) (places : TextPlaces) (end : Outcome)
+    → (summed_by patch choice name bytes places end).tally.hit ≡ false
+no_sum_hit patch choice name bytes places (Done s) = refl
+no_sum_hit patch choice name bytes places (Refused fault) = refl
 
 -- ---- files in turn
 
@@ -83,7 +86,7 @@ is_hit_at true hit e = absurd (omega (arith, e))
 is_hit_at false true e = refl
 is_hit_at false false e = absurd (omega (arith, e))
 
-ready_asks : (words : List (List ℕ)) (old : Observed) (whole : Patch) (lines defined : List (List ℕ)) (mode : Mode) (names : List (List ℕ))
+ready_asks : (words : List (List ℕ)) (old : Observed) (whole : Patch) (lines : NoteLines) (defined : List (List ℕ)) (mode : Mode) (names : List (List ℕ))
     (acts : List Act) → PatchReady words old whole lines defined (OnFiles mode names) acts → mode.check ≡ true → AsksCheck words
 ready_asks words old whole lines defined mode names acts (plain read) checks = record {
   patch = read.name;
@@ -114,9 +117,9 @@ reason_checked words old acts status (no_isos patch lines name defined target be
 reason_checked words old acts status (bad_isos patch lines name bytes defined target fault before a b c s) is = absurd (omega (arith, s, is))
 reason_checked words old acts status (many_forms patch lines name bytes defined target isos rule before a b c d s) is =
     absurd (omega (arith, s, is))
-reason_checked words old acts status (summed patch lines defined seed functions quiet treated before ready sums b s) is =
+reason_checked words old acts status (summed patch lines defined seed functions quiet unread treated before ready sums b s) is =
     let hit = is_hit_at treated.tally.refused treated.tally.hit (sym s ∙ is) in
-    absurd (not_hit treated _ sums.1.1.1.1 (no_sum_hit patch generated_name _ (told_places quiet sums.1.1.0) sums.0) hit)
+    absurd (not_hit treated _ sums.1.1.1.1.1 (no_sum_hit patch unread generated_name _ (told_places quiet sums.1.1.1.0) sums.1.0) hit)
 reason_checked words old acts status (filed patch lines defined mode names before rest (AllDone tally) ready does b s) is =
     let hit = is_hit_at tally.refused tally.hit (sym s ∙ is) in
     elim (files_checked patch defined mode names old (first_course lines) rest (AllDone tally) tally does refl hit) [

@@ -1,7 +1,7 @@
 -- If the shelf reveals its files, a stage leads to only one stage.
-use Rattle.std.proofs.Common.{◌≡◌, false, true, Bool, ◌<◌, ◌≤◌, ℕ, List, [], ◌∷◌, length, Option, Some, None, is_some, sym, ap, ◌∙◌, subst, inl, inr}
-use Rattle.std.proofs.Common.{arith}
-use Rattle.std.specs.Prelude.{IsSome}
+use Rattle.std.proofs.Common.{◌≡◌, ◌&&◌, ◌++◌, false, true, Bool, ◌<◌, ◌≤◌, ℕ, List, [], ◌∷◌, Option, Some, None, is_some, sym, ap, ◌∙◌, subst, inl, inr}
+use Rattle.std.proofs.Common.{length, map, arith}
+use Rattle.std.specs.Prelude.{IsSome, nat_le}
 use Rattle.outer_io.specs.Files.{Files}
 use Rattle.run_acts.specs.Loaded.{Found}
 use Rattle.smpl_patch.specs.declared.rule.Iso.{Iso}
@@ -12,10 +12,16 @@ use Rattle.smpl_file.specs.Patches.{IsPatchOf, IsFirstFault}
 use Rattle.iso_file.specs.declared.fault.IsoFault.{IsoFault}
 use Rattle.iso_file.specs.Isos.{AreIsosOf, IsFileFault}
 use Rattle.iso_expand.specs.Patches.{IsExpanded, IsFirstMany}
-use Rattle.rule_chain.specs.Chain.{Chain, Outcome}
+use Rattle.smpl_patch.specs.declared.witness.RuleWitness.{RuleWitness}
+use Rattle.rule_chain.specs.declared.rule_run.state.SkipNote.{SkipNote}
+use Rattle.rule_chain.specs.RuleRun.States.{Chained}
+use Rattle.rule_chain.specs.Chain.{Outcome, Done, Refused}
+use Rattle.rule_chain.specs.Passed.{EndsBy, AreAlike, AreToldAlike}
 use Rattle.sp_gen.specs.Generated.{generated}
+use Rattle.run_choices.specs.declared.unread.Unread.{Unread}
 use Rattle.run_words.specs.declared.order.Mode.{Mode}
 use Rattle.run_words.specs.Orders.{Target, OnFiles, OnText, is_quiet}
+use Rattle.run_files.specs.declared.run_lines.notes.NoteLines.{NoteLines}
 use Rattle.run_files.specs.RunLines.Patches.{patch_fault_line, iso_fault_line, forms_line, iso_byte}
 use Rattle.c_places.specs.declared.places.TextPlaces.{TextPlaces}
 use Rattle.c_places.specs.Starts.{ArePlaces}
@@ -24,7 +30,9 @@ use Rattle.smpl_notes.specs.declared.note.Note.{Note}
 use Rattle.smpl_notes.specs.Notes.{AreNotes}
 use Rattle.run_files.specs.RunLines.Further.{placed, told_place}
 use Rattle.run_files.specs.RunLines.Notes.{note_lines}
-use Rattle.run_files.specs.Treatment.{Treated, file_limit, IsTreatmentOf, IsFileTreatmentOf, Sums, treated_by, summed_by, told_places}
+use Rattle.run_files.specs.RunLines.Summary.{summary}
+use Rattle.run_files.specs.Treatment.{Treated, file_limit, IsTreatmentOf, IsFileTreatmentOf, Sums, treated_by, summed_by, told_places, effects}
+use Rattle.run_files.specs.Treatment.{faulted, note_act, shown, stored_after, is_hit, printing}
 use Rattle.run_files.specs.RunStages.Stages.{Stage, Doing, Ending, ReadPatch, ReadIsos, EditFiles, Course, generated_name, refusing, after_file}
 use Rattle.run_files.specs.RunStages.Stages.{going, end_status, TargetLeads, ReadLeads, NotedLeads, PatchLeads, IsosLead, IsosFileLeads, FileLeads}
 use Rattle.run_files.specs.RunStages.Stages.{Leads}
@@ -36,7 +44,7 @@ pub same_some : {A : Type 0} (a b : A) → Some a ≡ Some b → a ≡ b
 same_some a b e = cc
 
 -- Reading has only one result, a fault one place, a patch one list of notes, a text its tokens and items at one list of places;
--- a patch gets its forms in only one way, and the rules over a text have only one outcome.
+-- a patch gets its forms in only one way, and the rules over a text have only one outcome, as far as it is told.
 pub record ReadOnce : Type 0 where
   pub patch : (bytes : List ℕ) (one other : Patch) → IsPatchOf bytes one → IsPatchOf bytes other → one ≡ other
   pub patch_fault : (bytes : List ℕ) (one other : PatchFault) → IsFirstFault bytes one → IsFirstFault bytes other → one ≡ other
@@ -50,8 +58,9 @@ pub record ReadOnce : Type 0 where
   pub whole_apart : (isos : List Iso) (patch whole : Patch) (rule : ℕ) → IsExpanded isos patch whole → IsFirstMany isos patch.rules rule → ⊥
   pub patch_place : (bytes : List ℕ) (fault : PatchFault) (one other : Option ℕ) → FaultAt bytes fault one → FaultAt bytes fault other → one ≡ other
   pub places : (bytes : List ℕ) (one other : TextPlaces) → ArePlaces bytes one → ArePlaces bytes other → one ≡ other
-  pub chain : (rules : List Rule) (defined : List (List ℕ)) (bytes : List ℕ) (end other : Outcome) → Chain rules defined bytes end
-      → Chain rules defined bytes other → end ≡ other
+  pub alike : (choice : Unread) (rules : List Rule) (defined : List (List ℕ)) (bytes : List ℕ) (end other : Outcome)
+      → length bytes ≤ file_limit → EndsBy choice rules defined bytes end → EndsBy choice rules defined bytes other
+      → AreAlike end other × AreToldAlike choice end other
 
 Found-one : (holds : Option Files) (name : List ℕ) (a b : Option (List ℕ)) → IsSome holds → Found holds name a → Found holds name b → a ≡ b
 Found-one None name a b some one two = let e : false ≡ true = some in absurd (cc)
@@ -65,6 +74,39 @@ pub not-untold : (holds : Option Files) → IsSome holds → holds ≡ None → 
 not-untold None some none = let e : false ≡ true = some in absurd (cc)
 not-untold (Some files) some none = absurd (cc)
 
+-- ---- outcomes that are alike
+
+-- the state with this text and these witnesses
+abbrev with_found : Chained → List ℕ → List RuleWitness → Chained
+with_found s text found = record s { page = record s.page { bytes = text }; found = found }
+
+-- what results from a file whose rules end with this state, where these notes are told
+abbrev treated_with : Mode → Patch → List ℕ → List ℕ → TextPlaces → List SkipNote → Chained → Treated
+treated_with mode patch name bytes places notes s =
+    effects (map (note_act name bytes places) notes ++ shown mode patch name bytes s ++ stored_after mode name bytes s)
+    (mode.check && is_hit patch bytes s) (nat_le 1 (length s.found))
+
+treated_alike : (mode : Mode) (patch : Patch) (name bytes : List ℕ) (places : TextPlaces) (end other : Outcome) → AreAlike end other
+    → AreToldAlike mode.unread end other → treated_by mode patch name bytes places end ≡ treated_by mode patch name bytes places other
+treated_alike mode patch name bytes places (Done s) (Done t) alike told =
+    λ i. treated_with mode patch name bytes places (told i) (with_found s (alike.0 i) (alike.1 i))
+treated_alike mode patch name bytes places (Done s) (Refused g) alike told = absurd alike
+treated_alike mode patch name bytes places (Refused f) (Done t) alike told = absurd alike
+treated_alike mode patch name bytes places (Refused f) (Refused g) alike told = ap (faulted name bytes places) alike
+
+-- the same of a generated text
+abbrev summed_with : Patch → List ℕ → List ℕ → TextPlaces → List SkipNote → List ℕ → List RuleWitness → Treated
+summed_with patch name bytes places notes text found =
+    effects (map (note_act name bytes places) notes ++ printing (summary patch.rules found (length text))) false (nat_le 1 (length found))
+
+summed_alike : (patch : Patch) (choice : Unread) (name bytes : List ℕ) (places : TextPlaces) (end other : Outcome) → AreAlike end other
+    → AreToldAlike choice end other → summed_by patch choice name bytes places end ≡ summed_by patch choice name bytes places other
+summed_alike patch choice name bytes places (Done s) (Done t) alike told =
+    λ i. summed_with patch name bytes places (told i) (alike.0 i) (alike.1 i)
+summed_alike patch choice name bytes places (Done s) (Refused g) alike told = absurd alike
+summed_alike patch choice name bytes places (Refused f) (Done t) alike told = absurd alike
+summed_alike patch choice name bytes places (Refused f) (Refused g) alike told = ap (faulted name bytes places) alike
+
 module _ (laws : ReadOnce) where
   IsTreatmentOf-one : (mode : Mode) (patch : Patch) (defined : List (List ℕ)) (name bytes : List ℕ) (a b : Treated)
       → IsTreatmentOf mode patch defined name bytes a
@@ -73,9 +115,10 @@ module _ (laws : ReadOnce) where
   IsTreatmentOf-one mode patch defined name bytes a b (inl one) (inr two) = absurd (not-both (length bytes) one.0 two.0)
   IsTreatmentOf-one mode patch defined name bytes a b (inr one) (inl two) = absurd (not-both (length bytes) two.0 one.0)
   IsTreatmentOf-one mode patch defined name bytes a b (inr one) (inr two) =
-      let end = laws.chain patch.rules defined bytes one.1.0 two.1.0 one.1.1.0 two.1.1.0 in
+      let alike = laws.alike mode.unread patch.rules defined bytes one.1.0 two.1.0 one.0 one.1.1.0 two.1.1.0 in
       let places = laws.places bytes one.1.1.1.0 two.1.1.1.0 one.1.1.1.1.0 two.1.1.1.1.0 in
-      one.1.1.1.1.1 ∙ (λ i. treated_by mode patch name bytes (told_places mode.quiet (places i)) (end i)) ∙ sym two.1.1.1.1.1
+      one.1.1.1.1.1 ∙ ap (λ (p : TextPlaces). treated_by mode patch name bytes (told_places mode.quiet p) one.1.0) places
+      ∙ treated_alike mode patch name bytes (told_places mode.quiet two.1.1.1.0) one.1.0 two.1.0 alike.0 alike.1 ∙ sym two.1.1.1.1.1
 
   IsFileTreatmentOf-one : (holds : Option Files) → IsSome holds → (mode : Mode) (patch : Patch) (defined : List (List ℕ)) (name bytes : List ℕ) (a b : Treated)
       → IsFileTreatmentOf holds mode patch defined name bytes a → IsFileTreatmentOf holds mode patch defined name bytes b → a ≡ b
@@ -83,21 +126,24 @@ module _ (laws : ReadOnce) where
   IsFileTreatmentOf-one holds some mode patch defined name bytes a b (inl one) (inr two) = absurd (not-untold holds some two.0)
   IsFileTreatmentOf-one holds some mode patch defined name bytes a b (inr one) two = absurd (not-untold holds some one.0)
 
-  Sums-one : (patch : Patch) (defined : List (List ℕ)) (quiet : Bool) (name bytes : List ℕ) (a b : Treated) → Sums patch defined quiet name bytes a
-      → Sums patch defined quiet name bytes b → a ≡ b
-  Sums-one patch defined quiet name bytes a b one two =
-      let end = laws.chain patch.rules defined bytes one.0 two.0 one.1.0 two.1.0 in
-      let places = laws.places bytes one.1.1.0 two.1.1.0 one.1.1.1.0 two.1.1.1.0 in
-      one.1.1.1.1 ∙ (λ i. summed_by patch name bytes (told_places quiet (places i)) (end i)) ∙ sym two.1.1.1.1
+  Sums-one : (patch : Patch) (defined : List (List ℕ)) (quiet : Bool) (choice : Unread) (name bytes : List ℕ) (a b : Treated)
+      → Sums patch defined quiet choice name bytes a → Sums patch defined quiet choice name bytes b → a ≡ b
+  Sums-one patch defined quiet choice name bytes a b one two =
+      let it = one.1 in
+      let at = two.1 in
+      let alike = laws.alike choice patch.rules defined bytes it.0 at.0 one.0 it.1.0 at.1.0 in
+      let places = laws.places bytes it.1.1.0 at.1.1.0 it.1.1.1.0 at.1.1.1.0 in
+      it.1.1.1.1 ∙ ap (λ (p : TextPlaces). summed_by patch choice name bytes (told_places quiet p) it.0) places
+      ∙ summed_alike patch choice name bytes (told_places quiet at.1.1.0) it.0 at.0 alike.0 alike.1 ∙ sym at.1.1.1.1
 
-  TargetLeads-one : (patch : Patch) (lines defined : List (List ℕ)) (target : Target) (a b : Stage) → TargetLeads patch lines defined target a
+  TargetLeads-one : (patch : Patch) (lines : NoteLines) (defined : List (List ℕ)) (target : Target) (a b : Stage) → TargetLeads patch lines defined target a
       → TargetLeads patch lines defined target b → a ≡ b
   TargetLeads-one patch lines defined (OnFiles mode names) a b one two = one ∙ sym two
-  TargetLeads-one patch lines defined (OnText seed functions quiet) a b one two =
+  TargetLeads-one patch lines defined (OnText seed functions quiet unread) a b one two =
       one.1.1 ∙ ap (λ (t : Treated). Ending t.acts (end_status t.tally))
-      (Sums-one patch defined quiet generated_name (generated seed functions) one.0 two.0 one.1.0 two.1.0) ∙ sym two.1.1
+      (Sums-one patch defined quiet unread generated_name (generated seed functions) one.0 two.0 one.1.0 two.1.0) ∙ sym two.1.1
 
-  ReadLeads-one : (patch : Patch) (lines : List (List ℕ)) (isos : Option (List ℕ)) (defined : List (List ℕ)) (target : Target) (a b : Stage)
+  ReadLeads-one : (patch : Patch) (lines : NoteLines) (isos : Option (List ℕ)) (defined : List (List ℕ)) (target : Target) (a b : Stage)
       → ReadLeads patch lines isos defined target a → ReadLeads patch lines isos defined target b → a ≡ b
   ReadLeads-one patch lines None defined target a b one two = TargetLeads-one patch lines defined target a b one two
   ReadLeads-one patch lines (Some name) defined target a b one two = one ∙ sym two
@@ -123,7 +169,7 @@ module _ (laws : ReadOnce) where
       let same = laws.patch bytes one.0 two.0 one.1.0 two.1.0 in
       NotedLeads-one bytes two.0 name isos defined target a b (subst (λ (p : Patch). NotedLeads bytes p name isos defined target a) same one.1.1) two.1.1
 
-  IsosLead-one : (isos : List Iso) (patch : Patch) (lines : List (List ℕ)) (name : List ℕ) (defined : List (List ℕ)) (target : Target) (a b : Stage)
+  IsosLead-one : (isos : List Iso) (patch : Patch) (lines : NoteLines) (name : List ℕ) (defined : List (List ℕ)) (target : Target) (a b : Stage)
       → IsosLead isos patch lines name defined target a → IsosLead isos patch lines name defined target b → a ≡ b
   IsosLead-one isos patch lines name defined target a b (inl one) (inl two) =
       one.1.1 ∙ ap (λ (n : ℕ). refusing (forms_line name n) 3) (laws.rule isos patch.rules one.0 two.0 one.1.0 two.1.0) ∙ sym two.1.1
@@ -133,7 +179,7 @@ module _ (laws : ReadOnce) where
       let same = laws.whole isos patch one.0 two.0 one.1.0 two.1.0 in
       TargetLeads-one two.0 lines defined target a b (subst (λ (p : Patch). TargetLeads p lines defined target a) same one.1.1) two.1.1
 
-  IsosFileLeads-one : (under : Option (List ℕ)) (patch : Patch) (lines : List (List ℕ)) (name : List ℕ)
+  IsosFileLeads-one : (under : Option (List ℕ)) (patch : Patch) (lines : NoteLines) (name : List ℕ)
       (defined : List (List ℕ)) (target : Target) (a b : Stage)
       → IsosFileLeads under patch lines name defined target a → IsosFileLeads under patch lines name defined target b → a ≡ b
   IsosFileLeads-one None patch lines name defined target a b one two = one ∙ sym two

@@ -7,6 +7,7 @@ use Rattle.sp_gen.specs.Generated.{generated}
 use Rattle.run_words.specs.declared.order.Mode.{Mode}
 use Rattle.run_words.specs.Orders.{Target, OnFiles, OnText, Order, Apply, Generate, Say, order_of, is_quiet}
 use Rattle.run_words.specs.Faults.{word_fault}
+use Rattle.run_files.specs.declared.run_lines.notes.NoteLines.{NoteLines}
 use Rattle.run_files.specs.RunLines.Words.{refused_words, said}
 use Rattle.run_files.specs.RunLines.Patches.{patch_fault_line, iso_fault_line, forms_line, iso_byte}
 use Rattle.run_files.specs.RunLines.Further.{placed, told_place}
@@ -76,12 +77,12 @@ module _ (words : List (List ℕ)) (old : Observed) where
       (subst (λ (x : List Act). Path old (begun (word_fault words) order) x (Ending [] s)) (sym same) path)
 
   -- a patch was read
-  read_path : (patch : Patch) (lines : List (List ℕ)) (isos : Option (List ℕ)) (defined : List (List ℕ)) (target : Target)
+  read_path : (patch : Patch) (lines : NoteLines) (isos : Option (List ℕ)) (defined : List (List ℕ)) (target : Target)
       (before : List Act) (mid : Stage) (rest : List Act) (s : ℕ)
       → PatchRead words old patch lines isos defined target before → ReadLeads patch lines isos defined target mid → Path old mid rest (Ending [] s)
       → Leading (before ++ rest) s
   read_path patch lines isos defined target before mid rest s read leads path =
-      let noted = subst (λ (x : List (List ℕ)). ReadLeads patch x isos defined target mid) read.lines_are leads in
+      let noted = subst (λ (x : NoteLines). ReadLeads patch x isos defined target mid) read.lines_are leads in
       from_order (Some (Apply read.name isos defined target)) (before ++ rest) (Load read.name patch_limit ∷ rest) s read.found.order (
         refl,
         (
@@ -94,7 +95,7 @@ module _ (words : List (List ℕ)) (old : Observed) where
       ) (ap (λ (x : List Act). x ++ rest) read.acts_are)
 
   -- isomorphisms were loaded
-  isos_path : (patch : Patch) (lines : List (List ℕ)) (name : List ℕ) (under : Option (List ℕ)) (defined : List (List ℕ))
+  isos_path : (patch : Patch) (lines : NoteLines) (name : List ℕ) (under : Option (List ℕ)) (defined : List (List ℕ))
       (target : Target) (before : List Act) (mid : Stage)
       (rest : List Act) (s : ℕ)
       → IsosFound words old patch lines name under defined target before
@@ -109,7 +110,7 @@ module _ (words : List (List ℕ)) (old : Observed) where
       subst (λ (x : List Act). Leading x s) (sym same) whole
 
   -- a patch has all its forms
-  ready_path : (patch : Patch) (lines defined : List (List ℕ)) (target : Target) (before : List Act) (mid : Stage) (rest : List Act) (s : ℕ)
+  ready_path : (patch : Patch) (lines : NoteLines) (defined : List (List ℕ)) (target : Target) (before : List Act) (mid : Stage) (rest : List Act) (s : ℕ)
       → PatchReady words old patch lines defined target before → TargetLeads patch lines defined target mid
       → Path old mid rest (Ending [] s) → Leading (before ++ rest) s
   ready_path whole lines defined target before mid rest s (plain read) leads path = read_path whole lines None defined target before mid rest s read leads path
@@ -158,9 +159,9 @@ module _ (words : List (List ℕ)) (old : Observed) where
       let path = isos_path patch lines name (Some bytes) defined target before (refusing (forms_line name rule) 3) pending 3 found
       (inr (isos, (are, inl (rule, (many, refl))))) (ends_path old pending 3) in
       whole_run acts (before ++ pending) 3 status path is over
-  ways_are_acts acts status (summed patch lines defined seed functions quiet treated before ready sums is over) =
+  ways_are_acts acts status (summed patch lines defined seed functions quiet unread treated before ready sums is over) =
       let s = end_status treated.tally in
-      let path = ready_path patch lines defined (OnText seed functions quiet) before (Ending treated.acts s) treated.acts s ready (treated, (sums, refl))
+      let path = ready_path patch lines defined (OnText seed functions quiet unread) before (Ending treated.acts s) treated.acts s ready (treated, (sums, refl))
       (ends_path old treated.acts s) in
       whole_run acts (before ++ treated.acts) s status path is over
   ways_are_acts acts status (filed patch lines defined mode names before rest end ready does is over) =

@@ -8,6 +8,7 @@ use Rattle.iso_file.specs.Isos.{AreIsosOf}
 use Rattle.sp_gen.specs.Generated.{generated}
 use Rattle.run_words.specs.Orders.{Target, OnFiles, OnText, Order, Apply, Generate, Say, order_of, is_quiet}
 use Rattle.run_words.specs.Faults.{word_fault}
+use Rattle.run_files.specs.declared.run_lines.notes.NoteLines.{NoteLines}
 use Rattle.run_files.specs.RunLines.Words.{refused_words, said}
 use Rattle.run_files.specs.RunLines.Patches.{patch_fault_line, iso_fault_line, forms_line, iso_byte}
 use Rattle.run_files.specs.RunLines.Further.{placed, told_place}
@@ -25,21 +26,21 @@ use Rattle.spatch_run.proofs.RunLaws.FilesWhy.{ending, ending-at, files_went}
 
 module _ (words : List (List ℕ)) (old : Observed) where
   -- the patch has all its forms
-  ready_why : (patch : Patch) (lines defined : List (List ℕ)) (target : Target) (before : List Act) (mid : Stage) (acts : List Act) (last : Stage) (status : ℕ)
-      → PatchReady words old patch lines defined target before → TargetLeads patch lines defined target mid
+  ready_why : (patch : Patch) (lines : NoteLines) (defined : List (List ℕ)) (target : Target) (before : List Act) (mid : Stage)
+      (acts : List Act) (last : Stage) (status : ℕ) → PatchReady words old patch lines defined target before → TargetLeads patch lines defined target mid
       → Path old mid acts last → status_at last ≡ Some status
       → Reason words old (before ++ acts) status
   ready_why patch lines defined (OnFiles mode names) before mid acts last status ready leads path over =
       let there = subst (λ (m : Stage). Path old m acts last) leads path in
       let went = files_went patch defined mode names last status over old (first_course lines) [] acts there in
       filed patch lines defined mode names before went.rest went.end ready went.went (ap (λ (x : List Act). before ++ x) went.acts_are) went.status_is
-  ready_why patch lines defined (OnText seed functions quiet) before mid acts last status ready leads path over =
+  ready_why patch lines defined (OnText seed functions quiet unread) before mid acts last status ready leads path over =
       let treated : Treated = leads.0 in
       let end_of = ending-at old mid treated.acts (end_status treated.tally) acts last status leads.1.1 path over in
-      summed patch lines defined seed functions quiet treated before ready leads.1.0 (ap (λ (x : List Act). before ++ x) end_of.0) end_of.1
+      summed patch lines defined seed functions quiet unread treated before ready leads.1.0 (ap (λ (x : List Act). before ++ x) end_of.0) end_of.1
 
   -- the isomorphisms are read
-  forms_why : (patch : Patch) (lines : List (List ℕ)) (name bytes : List ℕ) (defined : List (List ℕ)) (target : Target)
+  forms_why : (patch : Patch) (lines : NoteLines) (name bytes : List ℕ) (defined : List (List ℕ)) (target : Target)
       (isos : List Iso) (before : List Act) (mid : Stage)
       (acts : List Act) (last : Stage) (status : ℕ) → IsosFound words old patch lines name (Some bytes) defined target before → AreIsosOf bytes isos
       → IsosLead isos patch lines name defined target mid → Path old mid acts last → status_at last ≡ Some status → Reason words old (before ++ acts) status
@@ -50,7 +51,7 @@ module _ (words : List (List ℕ)) (old : Observed) where
       ready_why gives.0 lines defined target before mid acts last status (expanded patch name bytes isos found are gives.1.0) gives.1.1 path over
 
   -- the isomorphisms are loaded
-  isos_why : (patch : Patch) (lines : List (List ℕ)) (name : List ℕ) (under : Option (List ℕ)) (defined : List (List ℕ))
+  isos_why : (patch : Patch) (lines : NoteLines) (name : List ℕ) (under : Option (List ℕ)) (defined : List (List ℕ))
       (target : Target) (before : List Act) (mid : Stage)
       (acts : List Act)
       (last : Stage) (status : ℕ) → IsosFound words old patch lines name under defined target before → IsosFileLeads under patch lines name defined target mid
@@ -66,7 +67,7 @@ module _ (words : List (List ℕ)) (old : Observed) where
       forms_why patch lines name bytes defined target gives.0 before mid acts last status found gives.1.0 gives.1.1 path over
 
   -- the isomorphisms are to be loaded
-  forms_first : (patch : Patch) (lines : List (List ℕ)) (name : List ℕ) (defined : List (List ℕ)) (target : Target)
+  forms_first : (patch : Patch) (lines : NoteLines) (name : List ℕ) (defined : List (List ℕ)) (target : Target)
       (before acts : List Act) (last : Stage) (status : ℕ)
       → PatchRead words old patch lines (Some name) defined target before → Path old (Doing [] (ReadIsos patch lines name defined target)) acts last
       → status_at last ≡ Some status → Reason words old (before ++ acts) status
@@ -82,7 +83,7 @@ module _ (words : List (List ℕ)) (old : Observed) where
       subst (λ (x : Act). Reason words old (before ++ x ∷ acts) status) (sym load) whole
 
   -- the patch is read
-  read_why : (patch : Patch) (lines : List (List ℕ)) (isos : Option (List ℕ)) (defined : List (List ℕ)) (target : Target)
+  read_why : (patch : Patch) (lines : NoteLines) (isos : Option (List ℕ)) (defined : List (List ℕ)) (target : Target)
       (before : List Act) (mid : Stage) (acts : List Act)
       (last : Stage) (status : ℕ)
       → PatchRead words old patch lines isos defined target before → ReadLeads patch lines isos defined target mid
@@ -106,7 +107,7 @@ module _ (words : List (List ℕ)) (old : Observed) where
       bad_patch name bytes isos defined target bad.0 bad.1.1.0 found bad.1.0 bad.1.1.1.0 (ap (λ (x : List Act). Load name patch_limit ∷ x) end_of.0) end_of.1
   patch_why name isos defined target (Some bytes) mid acts last status found (inr gives) path over =
       let notes = gives.1.1.0 in
-      let lines : List (List ℕ) = note_lines name (is_some isos) target notes in
+      let lines : NoteLines = note_lines name (is_some isos) target notes in
       let read : PatchRead words old gives.0 lines isos defined target (Load name patch_limit ∷ []) =
       record {
         name = name;

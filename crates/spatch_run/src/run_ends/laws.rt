@@ -5,6 +5,7 @@ ghost use Rattle.run_acts.specs.Breaks.{Counts, NoneRose};
 ghost use Rattle.smpl_patch.specs.declared.rule.Patch.{Patch as Whole};
 ghost use Rattle.run_words.specs.declared.order.Mode.{Mode as HowFiles};
 ghost use Rattle.run_words.specs.Orders.{OnFiles};
+ghost use Rattle.run_files.specs.declared.run_lines.notes.NoteLines.{NoteLines};
 ghost use Rattle.run_files.specs.RunStages.Paths.{AreActs};
 ghost use Rattle.run_files.specs.RunStages.Promise.{EndsRightly};
 ghost use Rattle.run_files.specs.RunStages.Reasons.{PatchReady};
@@ -41,19 +42,19 @@ pub fn words_have_acts()
 /// Does nothing.
 pub fn runs_are_complete()
     ensures fine { (words : List (List ℕ)) (before now : Counts) (old new : Observed) (status : ℕ) (patch : Whole)
-        (lines defined : List (List ℕ)) (mode : HowFiles) (names : List (List ℕ)) (acts : List Act) → IsSome old.files →
-        NoneRose before now → EndsRightly words before now old new status →
+        (lines : NoteLines) (defined : List (List ℕ)) (mode : HowFiles) (names : List (List ℕ)) (acts : List Act) →
+        IsSome old.files → NoneRose before now → EndsRightly words before now old new status →
         PatchReady words old patch lines defined (OnFiles mode names) acts → AllThere patch defined mode old names →
         NoneRefused patch defined mode old names → (mode.check ≡ true → NoneHit patch defined mode old names) →
         (status ≡ 0) ⊎ (status ≡ 7) }
     ensures hit { (words : List (List ℕ)) (before now : Counts) (old new : Observed) (status : ℕ) (patch : Whole)
-        (lines defined : List (List ℕ)) (mode : HowFiles) (names : List (List ℕ)) (acts : List Act) → IsSome old.files →
-        NoneRose before now → EndsRightly words before now old new status →
+        (lines : NoteLines) (defined : List (List ℕ)) (mode : HowFiles) (names : List (List ℕ)) (acts : List Act) →
+        IsSome old.files → NoneRose before now → EndsRightly words before now old new status →
         PatchReady words old patch lines defined (OnFiles mode names) acts → AllThere patch defined mode old names →
         NoneRefused patch defined mode old names → SomeHit patch defined mode old names → (status ≡ 8) ⊎ (status ≡ 7) }
     ensures refused { (words : List (List ℕ)) (before now : Counts) (old new : Observed) (status : ℕ) (patch : Whole)
-        (lines defined : List (List ℕ)) (mode : HowFiles) (names : List (List ℕ)) (acts : List Act) → IsSome old.files →
-        NoneRose before now → EndsRightly words before now old new status →
+        (lines : NoteLines) (defined : List (List ℕ)) (mode : HowFiles) (names : List (List ℕ)) (acts : List Act) →
+        IsSome old.files → NoneRose before now → EndsRightly words before now old new status →
         PatchReady words old patch lines defined (OnFiles mode names) acts → AllThere patch defined mode old names →
         SomeRefused patch defined mode old names → (status ≡ 4) ⊎ (status ≡ 7) }
 {

@@ -22,7 +22,7 @@ use Rattle.rule_envs.specs.FileEnvs.{most_environments}
 use Rattle.rule_chain.specs.declared.rule_run.fault.FileFault.{FileFault}
 use Rattle.rule_chain.specs.declared.rule_run.fault.FileFault.TheVariants.{TooManyWitnesses, TooManyEnvironments}
 use Rattle.rule_chain.specs.RuleRun.Notes.{notes_on}
-use Rattle.rule_chain.specs.RuleRun.States.{Chained, IsCut, first_state}
+use Rattle.rule_chain.specs.RuleRun.States.{Chained, IsCut, first_state, needed_notes}
 use Rattle.rule_chain.specs.RuleRun.OneRule.{edit_fault, MayRead, file_witnesses, rule_file_envs, is_too_much, RuleEdits, state_after, AreFew, IsFault}
 use Rattle.rule_chain.specs.RuleRun.OneRule.{Leads}
 use Rattle.rule_chain.specs.RuleRun.OneRule.IsFault.{too_many_witnesses, too_many_environments, in_edits}
@@ -93,6 +93,7 @@ module _ (cut_law : CutLaw) (state_law : StateLaw) (text_law : TextLaw) (defined
             items = items.0;
             skipped = left.skipped
                 ++ notes_on left.loaded (suc left.reading) (record { pieces = pieces.0; shown = items.1.0; items = items.0 });
+            needed = record { shown = items.1.0; ran = []; earlier = needed_notes left };
           } in
           go next (record { pieces = pieces.0; cut = pieces.1; items = items.0; reads = items.1; is = refl }))
 

@@ -9,7 +9,7 @@ envs_bare [] = refl
 envs_bare (c ∷ cs) = ap (λ (r : List Pairs). bare_env c.env ∷ r) (envs_bare cs)
 
 pub returns : goal.returns
-returns c = λ s are text notes. record {
+returns c = λ choice s are text notes. record {
   bytes = text;
   witnesses = sym are.found_is;
   skipped = sym notes;

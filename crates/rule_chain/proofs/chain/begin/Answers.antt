@@ -2,11 +2,11 @@ use Rattle.std.proofs.Common.{◌≡◌, ◌++◌, ◌∙◌, refl, ap, sym, sub
 use Rattle.c_lexer.specs.Pieces.{TextPiece, text_of}
 use Rattle.c_lexer.specs.Ids.{ids_of}
 use Rattle.c_lexer.specs.Lexes.{Lexes}
-use Rattle.c_file.specs.Reads.{Reads}
 use Rattle.rule_envs.specs.Shares.{bare_file_env}
 use Rattle.rule_chain.specs.RuleWitnesses.Bare.{bare_witness}
 use Rattle.rule_chain.specs.declared.rule_run.state.SkipNote.{SkipNote}
-use Rattle.rule_chain.specs.RuleRun.Notes.{notes_on}
+use Rattle.rule_chain.specs.Stops.{told_first}
+use Rattle.rule_chain.proofs.StepLemmas.{first_told}
 use Rattle.rule_chain.proofs.chain.begin.Goals as goal
 
 pub returns-clause-cut : goal.returns-clause-cut
@@ -42,7 +42,10 @@ returns-clause-at c = λ reads.
       bytes = sym lexes.0 ∙ ap text_of (sym pieces);
       reading = refl;
       loaded = loaded;
-      skipped = (λ i. notes_on (loaded i) 0
-          (record { pieces = file.pieces; shown = c.in_ok-file.ensures.shown reads i; items = file.items }))
-          ∙ sym (c.in_ok-skipped.ensures ∙ ap (λ (x : List SkipNote). x ++ notes_on c.token_count-next.result 0 file) c.new.ensures);
+      skipped = first_told c.args.unread file.pieces reads.0 file.items
+          ∙ (λ i. told_first c.args.unread (loaded i) 0 (record { pieces = file.pieces; shown = c.in_ok-file.ensures.shown reads i; items = file.items }))
+          ∙ sym (c.in_ok-skipped.ensures
+          ∙ ap (λ (x : List SkipNote). x ++ told_first c.args.unread c.token_count-next.result 0 file) c.new.ensures);
+      shown = c.in_ok-file.ensures.shown reads;
+      none_ran = refl;
     }

@@ -5,7 +5,7 @@ use Rattle.rule_chain.specs.RuleRun.OneRule.{IsFault}
 use Rattle.rule_chain.specs.RuleRun.Outcomes.{AreFindingsOf, IsAtReading, IsOutcome}
 use Rattle.rule_chain.specs.declared.rule_run.fault.FileFault.TheVariants as fault
 use Rattle.rule_chain.specs.Chain.{Runs, Refused}
-use Rattle.rule_chain.specs.Stops.{LeadsOn}
+use Rattle.rule_chain.specs.Stops.{LeadsOn, ran_number}
 use Rattle.rule_chain.proofs.RunLemmas.{leads, refuses}
 use Rattle.rule_chain.proofs.rules.run_at.Goals as goal
 
@@ -20,12 +20,13 @@ returns-clause-outcome g c =
     let next = c.args.reading.now.next in
     let findings = c.args.findings in
     IfOk-weaker c.run_rule.result
-    (λ w. (s : Chained) → AreFindingsOf findings s → IsAtReading file next s → IsOutcome ready.defined.now ready.number rule s w.findings w.text)
-    (λ w. (s : Chained) → AreFindingsOf findings s → IsAtReading file next s → LeadsOn defined rules number s (number + 1) w.findings w.text)
+    (λ w. (s : Chained) → AreFindingsOf findings s → IsAtReading file next s → IsOutcome ready.defined.now ready.number rule s w.findings w.text w.ran)
+    (λ w. (s : Chained) → AreFindingsOf findings s → IsAtReading file next s
+    → LeadsOn defined rules number s (number + 1) w.findings w.text (ran_number w.ran number))
     (λ w h s are at.
-    leads defined rules number rule c.requires.within c.at-ready.ensures.rule file next s w.findings w.text at
-    (subst (λ (d : List (List ℕ)). IsOutcome d number rule s w.findings w.text) c.at-ready.ensures.defined
-    (subst (λ (n : ℕ). IsOutcome ready.defined.now n rule s w.findings w.text) c.at-ready.ensures.number (h s are at))))
+    leads defined rules number rule c.requires.within c.at-ready.ensures.rule file next s w.findings w.text w.ran at
+    (subst (λ (d : List (List ℕ)). IsOutcome d number rule s w.findings w.text w.ran) c.at-ready.ensures.defined
+    (subst (λ (n : ℕ). IsOutcome ready.defined.now n rule s w.findings w.text w.ran) c.at-ready.ensures.number (h s are at))))
     c.run_rule.ensures.outcome
 
 pub returns-clause-fault : goal.returns-clause-fault

@@ -2,8 +2,7 @@ use Rattle.std.proofs.Common.{◌≡◌, ◌∙◌, ◌≤◌, length, refl, sym
 use Rattle.std.proofs.lemmas.Result.{err_from_is_err_and}
 use Rattle.run_acts.specs.Acts.{observed}
 use Rattle.run_acts.specs.Breaks.{NoneFell, counts}
-use Rattle.rule_chain.specs.Chain.{Done}
-use Rattle.run_files.proofs.TreatLemmas.{applied_some, applied_none, chain_places, refused_all, refused_part, treated_all}
+use Rattle.run_files.proofs.TreatLemmas.{applied_some, applied_none, text_places, refused_all, refused_part, treated_all}
 use Rattle.run_files.proofs.TreatLemmas.{stopped_in_lines, stopped_in_shown, stopped_in_kept}
 use Rattle.run_files.specs.Cuts.TreatsPart.{earlier}
 use Rattle.run_files.specs.Treatment.{shown}
@@ -17,8 +16,8 @@ returns-in_err-applied-clause-stopped g c =
     let rules = c.args.rules.now in let text = c.as_slice-text.result.now in
     let short : length text ≤ 16777216 = rw c.as_slice-text.ensures.value c.requires.short in
     let shelf = c.args.outside.now.shelf.now in let out = c.args.outside.now.out.now in
-    rw (p.1, p.2, ← c.as_slice-text.ensures.value) (refused_part c.args.mode rules.patch.now rules.defined.now c.args.name.now text short _ _ _ _ _
-    (c.in_err-applied.ensures.stopped (g.S.Loads.holds shelf) (g.O.Sink.written out) (g.S.Loads.stores shelf)
+    rw (p.1, p.2, ← c.as_slice-text.ensures.value) (refused_part c.args.mode rules.patch.now rules.defined.now c.args.name.now text short rules.unread
+    _ _ _ _ _ c.requires.unread (c.in_err-applied.ensures.stopped (g.S.Loads.holds shelf) (g.O.Sink.written out) (g.S.Loads.stores shelf)
     (g.S.Loads.faults shelf) (g.O.Sink.faults out) (g.S.Loads.faults shelf) (g.O.Sink.faults out)))
 
 pub returns-in_default-clause-treated : goal.returns-in_default-clause-treated
@@ -26,10 +25,11 @@ returns-in_default-clause-treated g c =
     let rules = c.args.rules.now in let text = c.as_slice-text.result.now in
     let short : length text ≤ 16777216 = rw c.as_slice-text.ensures.value c.requires.short in
     let shelf = c.args.outside.now.shelf.now in let out = c.args.outside.now.out.now in
-    let is = applied_none rules.patch.now rules.defined.now c.args.mode.quiet c.args.name.now text c.in_ok-applied.field-0
+    let is = applied_none rules.patch.now rules.defined.now c.args.mode.quiet rules.unread c.args.mode.unread c.args.name.now text
+    c.in_ok-applied.field-0
     (observed (g.S.Loads.holds shelf) (g.S.Loads.stores shelf) (g.O.Sink.written out) (g.E.Sink.written c.args.outside.now.err.now))
     (observed (g.S.Loads.holds shelf) (g.S.Loads.stores shelf) (g.O.Sink.written out) (g.E.Sink.written c.apply_or_refuse.new.err))
-    c.in_default.not-Some (c.in_ok-applied.ensures.done (g.S.Loads.holds shelf) (g.S.Loads.stores shelf) (g.O.Sink.written out)) in
+    c.requires.unread c.in_default.not-Some (c.in_ok-applied.ensures.done (g.S.Loads.holds shelf) (g.S.Loads.stores shelf) (g.O.Sink.written out)) in
     rw (c.of_refused.ensures, ← c.as_slice-text.ensures.value) (refused_all c.args.mode rules.patch.now rules.defined.now c.args.name.now text short _ _ is)
 
 -- memory ran out before it was known whether the file is hit
@@ -38,10 +38,11 @@ returns-in_err-hit-clause-stopped g c =
     let p = err_from_is_err_and c.from_residual-in_err-hit.result c.from_residual-in_err-hit.ensures.1 in
     let rules = c.args.rules.now in let text = c.as_slice-text.result.now in
     let shelf = c.args.outside.now.shelf.now in let out = c.args.outside.now.out.now in
-    let is = applied_some rules.patch.now rules.defined.now c.args.mode.quiet c.args.name.now text c.in_ok-applied.field-0 c.in-Some.applied
+    let is = applied_some rules.patch.now rules.defined.now c.args.mode.quiet rules.unread c.args.mode.unread c.args.name.now text
+    c.in_ok-applied.field-0 c.in-Some.applied
     (observed (g.S.Loads.holds shelf) (g.S.Loads.stores shelf) (g.O.Sink.written out) (g.E.Sink.written c.args.outside.now.err.now))
     (observed (g.S.Loads.holds shelf) (g.S.Loads.stores shelf) (g.O.Sink.written out) (g.E.Sink.written c.apply_or_refuse.new.err))
-    c.in-Some.is (c.in_ok-applied.ensures.done (g.S.Loads.holds shelf) (g.S.Loads.stores shelf) (g.O.Sink.written out)) in
+    c.requires.unread c.in-Some.is (c.in_ok-applied.ensures.done (g.S.Loads.holds shelf) (g.S.Loads.stores shelf) (g.O.Sink.written out)) in
     rw (p.1, p.2) (earlier refl is.1.1.1)
 
 pub returns-in_err-report_skipped-clause-stopped : goal.returns-in_err-report_skipped-clause-stopped
@@ -50,11 +51,12 @@ returns-in_err-report_skipped-clause-stopped g c =
     let rules = c.args.rules.now in let text = c.as_slice-text.result.now in
     let short : length text ≤ 16777216 = rw c.as_slice-text.ensures.value c.requires.short in
     let shelf = c.args.outside.now.shelf.now in let out = c.args.outside.now.out.now in
-    let is = applied_some rules.patch.now rules.defined.now c.args.mode.quiet c.args.name.now text c.in_ok-applied.field-0 c.in-Some.applied
+    let is = applied_some rules.patch.now rules.defined.now c.args.mode.quiet rules.unread c.args.mode.unread c.args.name.now text
+    c.in_ok-applied.field-0 c.in-Some.applied
     (observed (g.S.Loads.holds shelf) (g.S.Loads.stores shelf) (g.O.Sink.written out) (g.E.Sink.written c.args.outside.now.err.now))
     (observed (g.S.Loads.holds shelf) (g.S.Loads.stores shelf) (g.O.Sink.written out) (g.E.Sink.written c.apply_or_refuse.new.err))
-    c.in-Some.is (c.in_ok-applied.ensures.done (g.S.Loads.holds shelf) (g.S.Loads.stores shelf) (g.O.Sink.written out)) in
-    let found = chain_places rules.patch.now.rules rules.defined.now text (Done is.0) is.1.0 in
+    c.requires.unread c.in-Some.is (c.in_ok-applied.ensures.done (g.S.Loads.holds shelf) (g.S.Loads.stores shelf) (g.O.Sink.written out)) in
+    let found = text_places text in
     let fell : NoneFell (counts (g.S.Loads.faults shelf) (g.O.Sink.faults out) (g.E.Sink.faults c.args.outside.now.err.now))
     (counts (g.S.Loads.faults shelf) (g.O.Sink.faults out) (g.E.Sink.faults c.apply_or_refuse.new.err)) =
     record { shelf = omega arith; out = omega arith; err = c.in_ok-applied.ensures.later } in
@@ -69,11 +71,12 @@ returns-in_err-show_file-clause-stopped g c =
     let rules = c.args.rules.now in let text = c.as_slice-text.result.now in
     let short : length text ≤ 16777216 = rw c.as_slice-text.ensures.value c.requires.short in
     let shelf = c.args.outside.now.shelf.now in let out = c.args.outside.now.out.now in
-    let is = applied_some rules.patch.now rules.defined.now c.args.mode.quiet c.args.name.now text c.in_ok-applied.field-0 c.in-Some.applied
+    let is = applied_some rules.patch.now rules.defined.now c.args.mode.quiet rules.unread c.args.mode.unread c.args.name.now text
+    c.in_ok-applied.field-0 c.in-Some.applied
     (observed (g.S.Loads.holds shelf) (g.S.Loads.stores shelf) (g.O.Sink.written out) (g.E.Sink.written c.args.outside.now.err.now))
     (observed (g.S.Loads.holds shelf) (g.S.Loads.stores shelf) (g.O.Sink.written out) (g.E.Sink.written c.apply_or_refuse.new.err))
-    c.in-Some.is (c.in_ok-applied.ensures.done (g.S.Loads.holds shelf) (g.S.Loads.stores shelf) (g.O.Sink.written out)) in
-    let found = chain_places rules.patch.now.rules rules.defined.now text (Done is.0) is.1.0 in
+    c.requires.unread c.in-Some.is (c.in_ok-applied.ensures.done (g.S.Loads.holds shelf) (g.S.Loads.stores shelf) (g.O.Sink.written out)) in
+    let found = text_places text in
     let fell : NoneFell (counts (g.S.Loads.faults shelf) (g.O.Sink.faults out) (g.E.Sink.faults c.args.outside.now.err.now))
     (counts (g.S.Loads.faults shelf) (g.O.Sink.faults out) (g.E.Sink.faults c.report_skipped.new.err)) =
     record { shelf = omega arith; out = omega arith; err = omega (arith, c.in_ok-applied.ensures.later, c.in_ok-report_skipped.ensures.later) } in
@@ -81,8 +84,8 @@ returns-in_err-show_file-clause-stopped g c =
     found.0 found.1 c.as_slice.result.now (c.as_slice.ensures ∙ is.1.1.0.skipped) _ _ _ _ _ _ _ _ fell is.1.1.1
     (c.in_ok-report_skipped.ensures.done found.0 found.1 (g.S.Loads.holds shelf) (g.S.Loads.stores shelf) (g.O.Sink.written out))
     (Stops-as (printed c.what_is_shown-what.result rules.patch.now c.args.name.now is.0) (shown c.args.mode rules.patch.now c.args.name.now text is.0)
-    _ _ _ _ _ (c.what_is_shown-what.ensures rules.patch.now c.args.name.now text is.0 (c.in_ok-hit.ensures is.0 is.1.1.0))
-    (c.in_err-show_file.ensures.stopped is.0 is.1.1.0)))
+    _ _ _ _ _ (c.what_is_shown-what.ensures rules.patch.now c.args.name.now text is.0 (c.in_ok-hit.ensures c.args.mode.unread is.0 is.1.1.0))
+    (c.in_err-show_file.ensures.stopped c.args.mode.unread is.0 is.1.1.0)))
 
 pub returns-in_err-store_file-clause-stopped : goal.returns-in_err-store_file-clause-stopped
 returns-in_err-store_file-clause-stopped g c =
@@ -90,11 +93,12 @@ returns-in_err-store_file-clause-stopped g c =
     let rules = c.args.rules.now in let text = c.as_slice-text.result.now in
     let short : length text ≤ 16777216 = rw c.as_slice-text.ensures.value c.requires.short in
     let shelf = c.args.outside.now.shelf.now in let out = c.args.outside.now.out.now in let name = c.args.name.now in
-    let is = applied_some rules.patch.now rules.defined.now c.args.mode.quiet c.args.name.now text c.in_ok-applied.field-0 c.in-Some.applied
+    let is = applied_some rules.patch.now rules.defined.now c.args.mode.quiet rules.unread c.args.mode.unread c.args.name.now text
+    c.in_ok-applied.field-0 c.in-Some.applied
     (observed (g.S.Loads.holds shelf) (g.S.Loads.stores shelf) (g.O.Sink.written out) (g.E.Sink.written c.args.outside.now.err.now))
     (observed (g.S.Loads.holds shelf) (g.S.Loads.stores shelf) (g.O.Sink.written out) (g.E.Sink.written c.apply_or_refuse.new.err))
-    c.in-Some.is (c.in_ok-applied.ensures.done (g.S.Loads.holds shelf) (g.S.Loads.stores shelf) (g.O.Sink.written out)) in
-    let found = chain_places rules.patch.now.rules rules.defined.now text (Done is.0) is.1.0 in
+    c.requires.unread c.in-Some.is (c.in_ok-applied.ensures.done (g.S.Loads.holds shelf) (g.S.Loads.stores shelf) (g.O.Sink.written out)) in
+    let found = text_places text in
     let fell : NoneFell (counts (g.S.Loads.faults shelf) (g.O.Sink.faults out) (g.E.Sink.faults c.args.outside.now.err.now))
     (counts (g.S.Loads.faults c.show_file.new.outside.shelf.now) (g.O.Sink.faults c.show_file.new.outside.out.now)
     (g.E.Sink.faults c.show_file.new.outside.err.now)) =
@@ -108,8 +112,8 @@ returns-in_err-store_file-clause-stopped g c =
     found.0 found.1 c.as_slice.result.now (c.as_slice.ensures ∙ is.1.1.0.skipped) _ _ _ _ _ _ _ _ _ fell is.1.1.1
     (c.in_ok-report_skipped.ensures.done found.0 found.1 (g.S.Loads.holds shelf) (g.S.Loads.stores shelf) (g.O.Sink.written out))
     (Does-as (printed c.what_is_shown-what.result rules.patch.now name is.0) (shown c.args.mode rules.patch.now name text is.0)
-    _ _ (c.what_is_shown-what.ensures rules.patch.now name text is.0 (c.in_ok-hit.ensures is.0 is.1.1.0))
-    (c.in_ok-show_file.ensures.done is.0 is.1.1.0))
+    _ _ (c.what_is_shown-what.ensures rules.patch.now name text is.0 (c.in_ok-hit.ensures c.args.mode.unread is.0 is.1.1.0))
+    (c.in_ok-show_file.ensures.done c.args.mode.unread is.0 is.1.1.0))
     (c.in_err-store_file.ensures.stopped is.0 left))
 
 pub returns-clause-treated : goal.returns-clause-treated
@@ -117,17 +121,18 @@ returns-clause-treated g c =
     let rules = c.args.rules.now in let text = c.as_slice-text.result.now in
     let short : length text ≤ 16777216 = rw c.as_slice-text.ensures.value c.requires.short in
     let shelf = c.args.outside.now.shelf.now in let out = c.args.outside.now.out.now in let name = c.args.name.now in
-    let is = applied_some rules.patch.now rules.defined.now c.args.mode.quiet c.args.name.now text c.in_ok-applied.field-0 c.in-Some.applied
+    let is = applied_some rules.patch.now rules.defined.now c.args.mode.quiet rules.unread c.args.mode.unread c.args.name.now text
+    c.in_ok-applied.field-0 c.in-Some.applied
     (observed (g.S.Loads.holds shelf) (g.S.Loads.stores shelf) (g.O.Sink.written out) (g.E.Sink.written c.args.outside.now.err.now))
     (observed (g.S.Loads.holds shelf) (g.S.Loads.stores shelf) (g.O.Sink.written out) (g.E.Sink.written c.apply_or_refuse.new.err))
-    c.in-Some.is (c.in_ok-applied.ensures.done (g.S.Loads.holds shelf) (g.S.Loads.stores shelf) (g.O.Sink.written out)) in
-    let found = chain_places rules.patch.now.rules rules.defined.now text (Done is.0) is.1.0 in
+    c.requires.unread c.in-Some.is (c.in_ok-applied.ensures.done (g.S.Loads.holds shelf) (g.S.Loads.stores shelf) (g.O.Sink.written out)) in
+    let found = text_places text in
     let left : is.0.page.bytes ≡ c.deref.result.now = sym (c.deref.ensures.value ∙ is.1.1.0.bytes) in
     rw (← c.as_slice-text.ensures.value) (treated_all c.args.mode rules.patch.now rules.defined.now name text short is.0 is.1.0
     found.0 found.1 c.as_slice.result.now (c.as_slice.ensures ∙ is.1.1.0.skipped) c.in_ok-hit.hit c.has_witness.result _ _ _ _ _
-    (c.in_ok-hit.ensures is.0 is.1.1.0) (c.has_witness.ensures is.0 is.1.1.0) is.1.1.1
+    (c.in_ok-hit.ensures c.args.mode.unread is.0 is.1.1.0) (c.has_witness.ensures c.args.mode.unread is.0 is.1.1.0) is.1.1.1
     (c.in_ok-report_skipped.ensures.done found.0 found.1 (g.S.Loads.holds shelf) (g.S.Loads.stores shelf) (g.O.Sink.written out))
     (Does-as (printed c.what_is_shown-what.result rules.patch.now name is.0) (shown c.args.mode rules.patch.now name text is.0)
-    _ _ (c.what_is_shown-what.ensures rules.patch.now name text is.0 (c.in_ok-hit.ensures is.0 is.1.1.0))
-    (c.in_ok-show_file.ensures.done is.0 is.1.1.0))
+    _ _ (c.what_is_shown-what.ensures rules.patch.now name text is.0 (c.in_ok-hit.ensures c.args.mode.unread is.0 is.1.1.0))
+    (c.in_ok-show_file.ensures.done c.args.mode.unread is.0 is.1.1.0))
     (c.in_ok-store_file.ensures.done is.0 left))

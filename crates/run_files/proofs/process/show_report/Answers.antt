@@ -12,25 +12,25 @@ pub returns-in_err-text-clause-stopped : goal.returns-in_err-text-clause-stopped
 returns-in_err-text-clause-stopped g c =
     let p = err_from_is_err_and c.from_residual.result c.from_residual.ensures.1 in
     let patch = c.args.patch.now in let name = c.args.name.now in
-    rw (p.1, p.2) (λ s files stores n n' a.
+    rw (p.1, p.2) (λ unread s files stores n n' a.
     Stops-as (Print (report_of patch name s.found) ∷ []) (printing (report_of patch name s.found)) _ _ _ _ _
     (report_prints patch name s.found) (Stops-unfed (Print (report_of patch name s.found)) _ _ _))
 
 pub returns-clause-done : goal.returns-clause-done
 returns-clause-done g c =
     let patch = c.args.patch.now in let name = c.args.name.now in
-    on_ok_weaker c.show.result (λ h s files stores a.
+    on_ok_weaker c.show.result (λ h unread s files stores a.
     let text : c.deref.result.now ≡ report_of patch name s.found =
     c.deref.ensures.value ∙ c.in_ok-text.ensures.report
-    ∙ (λ i. report_of patch (c.as_bytes.ensures.value i) (c.as_slice-witnesses.ensures i)) ∙ report_shown patch name c.args.applied.now s a in
+    ∙ (λ i. report_of patch (c.as_bytes.ensures.value i) (c.as_slice-witnesses.ensures i)) ∙ report_shown patch name c.args.applied.now unread s a in
     Does-as (printing c.deref.result.now) (printing (report_of patch name s.found)) _ _ (ap printing text) (h files stores)) c.show.ensures.done
 
 pub returns-clause-stopped : goal.returns-clause-stopped
 returns-clause-stopped g c =
     let patch = c.args.patch.now in let name = c.args.name.now in
-    IfErr-weaker c.show.result _ _ (λ stopped h s files stores n n' a.
+    IfErr-weaker c.show.result _ _ (λ stopped h unread s files stores n n' a.
     let text : c.deref.result.now ≡ report_of patch name s.found =
     c.deref.ensures.value ∙ c.in_ok-text.ensures.report
-    ∙ (λ i. report_of patch (c.as_bytes.ensures.value i) (c.as_slice-witnesses.ensures i)) ∙ report_shown patch name c.args.applied.now s a in
+    ∙ (λ i. report_of patch (c.as_bytes.ensures.value i) (c.as_slice-witnesses.ensures i)) ∙ report_shown patch name c.args.applied.now unread s a in
     Stops-as (printing c.deref.result.now) (printing (report_of patch name s.found)) _ _ _ _ _ (ap printing text)
     (h files stores n n')) c.show.ensures.stopped

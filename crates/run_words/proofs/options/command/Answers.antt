@@ -18,10 +18,11 @@ returns c =
     let a4 = c.in_ok-arg-4.ensures.shape c.valued-4.ensures.local ∙ ap₂ with_rule a3 c.valued-4.ensures.rule in
     let a5 = c.in_ok-arg-5.ensures.shape c.valued-5.ensures.local ∙ ap₂ with_rule a4 c.valued-5.ensures.rule in
     let a6 = c.in_ok-arg-6.ensures.shape c.valued-6.ensures.local ∙ ap₂ with_rule a5 c.valued-6.ensures.rule in
-    let a7 = c.in_ok-arg-7.ensures.shape c.flag.ensures.local ∙ ap₂ with_rule a6 c.flag.ensures.rule in
-    let a8 = c.in_ok-arg-8.ensures.shape c.flag-2.ensures.local ∙ ap₂ with_rule a7 c.flag-2.ensures.rule in
-    let a9 = c.in_ok-arg-9.ensures.shape c.flag-3.ensures.local ∙ ap₂ with_rule a8 c.flag-3.ensures.rule in
-    let a10 = c.in_ok-arg-10.ensures.shape c.flag-4.ensures.local ∙ ap₂ with_rule a9 c.flag-4.ensures.rule in
-    let a11 = c.in_ok-arg-11.ensures.shape c.flag-5.ensures.local ∙ ap₂ with_rule a10 c.flag-5.ensures.rule in
-    let a12 = c.in_ok-arg-12.ensures.shape c.flag-6.ensures.local ∙ ap₂ with_rule a11 c.flag-6.ensures.rule in
-    IfOk-weaker c.arg-13.result _ _ (λ m h. h.shape c.files.ensures.local ∙ ap₂ with_rule a12 c.files.ensures.rule) c.arg-13.ensures
+    let a7 = c.in_ok-arg-7.ensures.shape c.valued-7.ensures.local ∙ ap₂ with_rule a6 c.valued-7.ensures.rule in
+    let a8 = c.in_ok-arg-8.ensures.shape c.flag.ensures.local ∙ ap₂ with_rule a7 c.flag.ensures.rule in
+    let a9 = c.in_ok-arg-9.ensures.shape c.flag-2.ensures.local ∙ ap₂ with_rule a8 c.flag-2.ensures.rule in
+    let a10 = c.in_ok-arg-10.ensures.shape c.flag-3.ensures.local ∙ ap₂ with_rule a9 c.flag-3.ensures.rule in
+    let a11 = c.in_ok-arg-11.ensures.shape c.flag-4.ensures.local ∙ ap₂ with_rule a10 c.flag-4.ensures.rule in
+    let a12 = c.in_ok-arg-12.ensures.shape c.flag-5.ensures.local ∙ ap₂ with_rule a11 c.flag-5.ensures.rule in
+    let a13 = c.in_ok-arg-13.ensures.shape c.flag-6.ensures.local ∙ ap₂ with_rule a12 c.flag-6.ensures.rule in
+    IfOk-weaker c.arg-14.result _ _ (λ m h. h.shape c.files.ensures.local ∙ ap₂ with_rule a13 c.files.ensures.rule) c.arg-14.ensures

@@ -58,7 +58,7 @@ pub returns-in_err-take_turn-clause-ends : goal.returns-in_err-take_turn-clause-
 returns-in_err-take_turn-clause-ends g c =
     let inv = c.loop-name.invariant in
     let p = err_from_is_err_and c.from_residual.result c.from_residual.ensures.1 in
-    let notes = map (λ line. line.items) c.args.notes.now in
+    let notes = c.args.notes.now in
     rw (p.1, p.2) (step_cut c.args.rules.now.patch.now c.args.rules.now.defined.now c.args.mode c.args.names.now
     c.loop-name.name-index (record { ref_ptr = (0, 0); now = [] }) (course_of c.loop-name.tally notes)
     (omega arith) inv.goes inv.fell c.in_err-take_turn.ensures.stopped)
@@ -66,7 +66,7 @@ returns-in_err-take_turn-clause-ends g c =
 pub returns-in-Absent-clause-ends : goal.returns-in-Absent-clause-ends
 returns-in-Absent-clause-ends g c =
     let inv = c.loop-name.invariant in
-    let notes = map (λ line. line.items) c.args.notes.now in
+    let notes = c.args.notes.now in
     step_absent c.args.rules.now.patch.now c.args.rules.now.defined.now c.args.mode c.args.names.now c.loop-name.name-index
     (record { ref_ptr = (0, 0); now = [] }) (course_of c.loop-name.tally notes)
     (omega arith) inv.goes inv.fell c.in_ok-take_turn.ensures.fell (rw c.in-Absent.is at c.in_ok-take_turn.ensures.turned)
@@ -75,7 +75,7 @@ returns-in-Absent-clause-ends g c =
 pub loop-name-preserved : goal.loop-name-preserved
 loop-name-preserved g c =
     let inv = c.loop-name.invariant in
-    let notes = map (λ line. line.items) c.args.notes.now in
+    let notes = c.args.notes.now in
     record {
       same = SamePlaces-then c.args.outside.now c.loop-name.outside c.take_turn.new.outside inv.same c.in_ok-take_turn.ensures.same;
       fell = NoneFell-then _ _ _ inv.fell c.in_ok-take_turn.ensures.fell;
@@ -89,7 +89,7 @@ returns-in_err-tell-clause-ends g c =
     let inv = c.loop-name.invariant in
     let p = err_from_is_err_and c.from_residual-in_err-tell.result c.from_residual-in_err-tell.ensures.1 in
     let none : drop c.loop-name.name-index c.args.names.now ≡ [] = drop_of_length-le c.args.names.now (omega arith) in
-    let notes = map (λ line. line.items) c.args.notes.now in
+    let notes = c.args.notes.now in
     let last = c.loop-name.outside in
     let s = g.S.Loads.faults last.shelf.now in
     let o = g.O.Sink.faults last.out.now in
@@ -102,7 +102,7 @@ pub returns-clause-ends : goal.returns-clause-ends
 returns-clause-ends g c =
     let inv = c.loop-name.invariant in
     let none : drop c.loop-name.name-index c.args.names.now ≡ [] = drop_of_length-le c.args.names.now (omega arith) in
-    let notes = map (λ line. line.items) c.args.notes.now in
+    let notes = c.args.notes.now in
     let last = c.loop-name.outside in
     let s = g.S.Loads.faults last.shelf.now in
     let o = g.O.Sink.faults last.out.now in

@@ -15,9 +15,9 @@ invariant-loop-name g l =
       fell : NoneFell (counts (g.S.Loads.faults old.shelf.now) (g.O.Sink.faults old.out.now) (g.E.Sink.faults old.err.now))
           (counts (g.S.Loads.faults now.shelf.now) (g.O.Sink.faults now.out.now) (g.E.Sink.faults now.err.now));
       goes : Goes (going [] l.rules.patch.now l.rules.defined.now l.mode (map (λ name. name.now) l.names)
-          (first_course (map (λ line. line.items) l.notes)))
+          (first_course l.notes))
           (observed (g.S.Loads.holds old.shelf.now) (g.S.Loads.stores old.shelf.now) (g.O.Sink.written old.out.now) (g.E.Sink.written old.err.now))
           (going [] l.rules.patch.now l.rules.defined.now l.mode (map (λ name. name.now) (drop l.name-index l.names))
-          (course_of l.tally (map (λ line. line.items) l.notes)))
+          (course_of l.tally l.notes))
           (observed (g.S.Loads.holds now.shelf.now) (g.S.Loads.stores now.shelf.now) (g.O.Sink.written now.out.now) (g.E.Sink.written now.err.now));
     }

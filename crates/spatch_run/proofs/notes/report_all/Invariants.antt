@@ -9,6 +9,6 @@ abbrev pub invariant-loop-line : goal.invariant-loop-line
 invariant-loop-line g l = record {
   later : g.E.Sink.faults l.initial.err ≤ g.E.Sink.faults l.err;
   done : (files : Option Files) (stores : ℕ) (out : Option (List ℕ)) →
-      Does (map (λ line. Report line.items) (take l.line-index l.notes))
+      Does (map Report (take l.line-index l.lines))
       (observed files stores out (g.E.Sink.written l.initial.err)) (observed files stores out (g.E.Sink.written l.err));
 }

@@ -17,6 +17,9 @@ returns c =
       whole_apart = c.patches_are_expanded_once.ensures.apart;
       patch_place = c.faults_have_one_place.ensures;
       places = c.places_are_one.ensures;
-      chain = c.chain_has_one_end.ensures;
+      alike = λ choice rules defined bytes end other short one two. (
+        c.unread_changes_notes_alone.ensures.alike choice choice rules defined bytes end other short one two,
+        c.unread_changes_notes_alone.ensures.told choice rules defined bytes end other short one two,
+      );
     } in
     record { same = acts_one laws; begins = first_acts laws }

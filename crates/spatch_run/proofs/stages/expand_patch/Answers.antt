@@ -21,9 +21,9 @@ pub returns-in-Ok-clause-ends : goal.returns-in-Ok-clause-ends
 returns-in-Ok-clause-ends g c =
     let defined = c.args.order.now.defined.items in
     let target = shown_target c.args.order.now.target in
-    let notes = map (λ line. line.items) c.args.noted.notes.items in
+    let notes = c.args.noted.notes in
     by_other (TargetLeads c.in-Ok.whole notes defined target) (IsosLead c.args.isos.now c.args.noted.patch notes c.args.name.now defined target)
-    (λ to leads. inr (c.in-Ok.whole, (c.in-Ok.ensures.patch, leads))) (rw c.deref.ensures.value at c.use_patch.ensures.ends)
+    (λ to leads. inr (c.in-Ok.whole, (c.in-Ok.ensures.patch, leads))) c.use_patch.ensures.ends
 
 pub returns-in-Err-NoMemory-clause-ends : goal.returns-in-Err-NoMemory-clause-ends
 returns-in-Err-NoMemory-clause-ends g c =

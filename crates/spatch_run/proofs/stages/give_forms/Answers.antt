@@ -12,10 +12,10 @@ use_patch-requires-clause-usable g c κs within = c.patches_may_be_used.ensures.
 
 pub returns-in-None-clause-ends : goal.returns-in-None-clause-ends
 returns-in-None-clause-ends g c =
-    rw c.in-None.is (rw c.deref.ensures.value at c.use_patch.ensures.ends)
+    rw c.in-None.is c.use_patch.ensures.ends
 
 pub returns-in-Some-clause-ends : goal.returns-in-Some-clause-ends
 returns-in-Some-clause-ends g c =
-    rw c.in-Some.is (from (Doing [] (ReadIsos c.args.noted.patch (map (λ line. line.items) c.args.noted.notes.items) c.in-Some.name.now
+    rw c.in-Some.is (from (Doing [] (ReadIsos c.args.noted.patch c.args.noted.notes c.in-Some.name.now
     c.args.order.now.defined.items
     (shown_target c.args.order.now.target))) refl c.load_isos.ensures.ends)

@@ -24,7 +24,7 @@ pub returns-in_err-bytes-clause-ends : goal.returns-in_err-bytes-clause-ends
 returns-in_err-bytes-clause-ends g c =
     let p = err_from_is_err_and c.from_residual.result c.from_residual.ensures.1 in
     let o = g.O.Sink.faults c.args.outside.now.out.now in
-    let work = ReadIsos c.args.noted.patch (map (λ line. line.items) c.args.noted.notes.items) c.args.name.now c.args.order.now.defined.items
+    let work = ReadIsos c.args.noted.patch c.args.noted.notes c.args.name.now c.args.order.now.defined.items
     (shown_target c.args.order.now.target) in
     rw (p.1, p.2) (broken (Doing [] work) (first_load work) refl
     (record { shelf = c.in_err-bytes.ensures.later; out = omega arith; err = c.in_err-bytes.ensures.later_err })
@@ -34,7 +34,7 @@ pub returns-in-TooLong-clause-ends : goal.returns-in-TooLong-clause-ends
 returns-in-TooLong-clause-ends g c =
     let found = rw c.in-TooLong.is at c.in_ok-bytes.ensures.loaded in
     let patch = c.args.noted.patch in
-    let notes = map (λ line. line.items) c.args.noted.notes.items in
+    let notes = c.args.noted.notes in
     let name = c.args.name.now in
     let defined = c.args.order.now.defined.items in
     let target = shown_target c.args.order.now.target in
@@ -50,7 +50,7 @@ pub returns-in-Absent-clause-ends : goal.returns-in-Absent-clause-ends
 returns-in-Absent-clause-ends g c =
     let found = rw c.in-Absent.is at c.in_ok-bytes.ensures.loaded in
     let patch = c.args.noted.patch in
-    let notes = map (λ line. line.items) c.args.noted.notes.items in
+    let notes = c.args.noted.notes in
     let name = c.args.name.now in
     let defined = c.args.order.now.defined.items in
     let target = shown_target c.args.order.now.target in
@@ -67,7 +67,7 @@ returns-in-Ok-clause-ends g c =
     let found = rw c.in-Bytes.is at c.in_ok-bytes.ensures.loaded in
     let under : found.0 ≡ Some c.as_slice-text.result.now = rw c.as_slice-text.ensures.value found.1.1.0 in
     let patch = c.args.noted.patch in
-    let notes = map (λ line. line.items) c.args.noted.notes.items in
+    let notes = c.args.noted.notes in
     let name = c.args.name.now in
     let defined = c.args.order.now.defined.items in
     let target = shown_target c.args.order.now.target in
@@ -89,7 +89,7 @@ returns-in-Ok-clause-ends g c =
 pub returns-then-is_no_memory_for_isos-clause-ends : goal.returns-then-is_no_memory_for_isos-clause-ends
 returns-then-is_no_memory_for_isos-clause-ends g c =
     let patch = c.args.noted.patch in
-    let notes = map (λ line. line.items) c.args.noted.notes.items in
+    let notes = c.args.noted.notes in
     let name = c.args.name.now in
     let defined = c.args.order.now.defined.items in
     let target = shown_target c.args.order.now.target in
@@ -107,7 +107,7 @@ returns-else-is_no_memory_for_isos-clause-ends g c =
     let bad : IsFileFault c.as_slice-text.result.now c.in-Err.fault =
     not_memory c.is_no_memory_for_isos.result c.if-is_no_memory_for_isos.false c.is_no_memory_for_isos.ensures c.in-Err.ensures.fault in
     let patch = c.args.noted.patch in
-    let notes = map (λ line. line.items) c.args.noted.notes.items in
+    let notes = c.args.noted.notes in
     let name = c.args.name.now in
     let defined = c.args.order.now.defined.items in
     let target = shown_target c.args.order.now.target in

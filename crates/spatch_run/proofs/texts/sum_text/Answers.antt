@@ -22,7 +22,8 @@ returns-in_err-tally-clause-ends g c =
     let fell : NoneFell (counts s (g.O.Sink.faults old.out.now) (g.E.Sink.faults old.err.now))
     (counts s (g.O.Sink.faults c.sum.new.out) (g.E.Sink.faults c.sum.new.err)) =
     record { shelf = omega arith; out = c.in_err-tally.ensures.later; err = c.in_err-tally.ensures.later_err } in
-    rw (p.1, p.2) (λ notes. sum_cut c.args.rules.now.patch.now notes c.args.rules.now.defined.now c.args.seed c.args.functions c.args.quiet fell
+    rw (p.1, p.2) (λ notes. sum_cut c.args.rules.now.patch.now notes c.args.rules.now.defined.now c.args.seed c.args.functions c.args.quiet
+    c.args.rules.now.unread fell
     (rw c.in_ok-text.ensures.text at (c.in_err-tally.ensures.stopped (g.S.Loads.holds old.shelf.now) (g.S.Loads.stores old.shelf.now) s s)))
 
 pub returns-clause-ends : goal.returns-clause-ends
@@ -32,5 +33,6 @@ returns-clause-ends g c =
     let fell : NoneFell (counts s (g.O.Sink.faults old.out.now) (g.E.Sink.faults old.err.now))
     (counts s (g.O.Sink.faults c.sum.new.out) (g.E.Sink.faults c.sum.new.err)) =
     record { shelf = omega arith; out = c.in_ok-tally.ensures.later; err = c.in_ok-tally.ensures.later_err } in
-    λ notes. sum_done c.args.rules.now.patch.now notes c.args.rules.now.defined.now c.args.seed c.args.functions c.args.quiet c.in_ok-tally.tally fell
+    λ notes. sum_done c.args.rules.now.patch.now notes c.args.rules.now.defined.now c.args.seed c.args.functions c.args.quiet
+    c.args.rules.now.unread c.in_ok-tally.tally fell
     c.end_status.ensures (rw c.in_ok-text.ensures.text at (c.in_ok-tally.ensures.treated (g.S.Loads.holds old.shelf.now) (g.S.Loads.stores old.shelf.now)))

@@ -1,4 +1,4 @@
-use Rattle.std.proofs.Common.{ℕ, ap, ◌∙◌, subst, Bool}
+use Rattle.std.proofs.Common.{ap, ◌∙◌, subst, Bool}
 use Rattle.c_file.specs.ItemGraphs.Made.{IsMade}
 use Rattle.smpl_patch.specs.Wants.{ask_types}
 use Rattle.rule_chain.proofs.RuleEdits.NodeLemmas.{made_more}

@@ -1,6 +1,8 @@
-use Rattle.std.proofs.Common.{◌≡◌, sym, ap, ◌∙◌, subst, map}
+use Rattle.std.proofs.Common.{◌≡◌, not, List, sym, ap, ◌∙◌, subst, map}
 use Rattle.std.proofs.lemmas.Result.{err_from_is_err_and}
+use Rattle.env_parts.specs.Parts.{Pairs}
 use Rattle.rule_envs.specs.Shares.{bare_file_env}
+use Rattle.rule_chain.specs.RuleEdits.Pages.{is_empty}
 use Rattle.rule_chain.specs.FileWitnesses.Found as found
 use Rattle.rule_chain.specs.declared.rule_matches.fault.MatchFault.TheVariants.{TooManyWitnesses, TooManyEnvironments}
 use Rattle.rule_chain.specs.RuleMatches.Matching.{AreApart, rule_share}
@@ -47,6 +49,15 @@ returns-clause-file_envs g c =
     c.in_ok-projected.ensures.projections
     c.in_ok-projected.projected.places c.as_slice-3.result.now c.as_slice-3.ensures c.in_ok-projected.ensures.places
     c.as_slice-4.result.now c.in_ok-found.found.parts c.as_slice-4.ensures c.in_ok-found.ensures.parts)
+
+pub returns-clause-ran : goal.returns-clause-ran
+returns-clause-ran g c =
+    c.has_some-ran.ensures
+    ∙ ap (λ (envs : List Pairs). not (is_empty envs))
+    (run_under c.args.ready.now.defined.now c.args.had.now c.args.ready.now.number c.args.ready.now.rule.now c.args.graphs.now.items
+    c.args.file_envs.now c.as_slice.result.now
+    (c.as_slice.ensures ∙ c.args.ready.now.prepared_is.inherited) c.in_ok-projected.projected.projections c.as_slice-5.result.now c.as_slice-5.ensures
+    c.in_ok-projected.ensures.projections)
 
 pub returns-clause-few : goal.returns-clause-few
 returns-clause-few g c =

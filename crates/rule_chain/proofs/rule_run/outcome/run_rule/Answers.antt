@@ -22,6 +22,6 @@ returns-clause-outcome g c =
     rule_works c.args.ready.now.defined.now c.args.ready.now.number c.args.ready.now.rule.now c.args.reading.now.file.now
     c.args.reading.now.next c.args.findings
     c.as_slice.result.now c.args.graphs.now.items c.as_slice-2.result.now c.as_slice.ensures c.requires.items c.as_slice-2.ensures
-    c.in-Ok.matches.witnesses c.as_slice-3.result.now c.in-Ok.matches.file_envs c.in_ok-left.left c.in-Ok-text_after_edits.text
+    c.in-Ok.matches.witnesses c.as_slice-3.result.now c.in-Ok.matches.file_envs c.in_ok-left.left c.in-Ok-text_after_edits.text c.in-Ok.matches.ran
     c.in-Ok.ensures.few c.in-Ok.ensures.found c.in-Ok.ensures.file_envs c.in-Ok.ensures.few_environments c.as_slice-3.ensures
-    c.in-Ok-text_after_edits.ensures.text c.in_ok-left.ensures.file_envs c.in_ok-left.ensures.had c.in_ok-left.ensures.found
+    c.in-Ok-text_after_edits.ensures.text c.in_ok-left.ensures.file_envs c.in_ok-left.ensures.had c.in_ok-left.ensures.found c.in-Ok.ensures.ran

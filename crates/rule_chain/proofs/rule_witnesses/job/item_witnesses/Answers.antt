@@ -1,8 +1,7 @@
-use Rattle.std.proofs.Common.{◌≡◌, ℕ, ◌<◌, ◌≤◌, ap, ◌∙◌, subst, sym, arith, List, length, map, get_or}
+use Rattle.std.proofs.Common.{◌≡◌, ℕ, ◌<◌, ◌≤◌, ap, ◌∙◌, subst, arith, List, length, map, get_or}
 use Rattle.std.specs.List.{flat_map}
 use Rattle.std.proofs.lemmas.List.{take_all}
 use Rattle.std.proofs.lemmas.Result.{err_from_is_err_and}
-use Rattle.cfg_build.specs.CfgGraph.Flow.{count_of}
 use Rattle.rule_chain.specs.RuleWitnesses.Bare.{bare_witness}
 use Rattle.rule_chain.specs.RuleWitnesses.Jobs.{touches_and_binds, witnesses_at, witnesses_of}
 use Rattle.rule_chain.proofs.RuleWitnesses.JobLemmas.{nodes_more, nodes_past, nodes-same, set_told, set_leaves}

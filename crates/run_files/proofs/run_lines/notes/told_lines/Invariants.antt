@@ -6,5 +6,5 @@ use Rattle.run_files.proofs.run_lines.notes.told_lines.Given as goal
 
 abbrev pub invariant-loop-note : goal.invariant-loop-note
 invariant-loop-note l =
-    map (λ line. line.items) l.lines.items ++ map (note_line l.name) (filter (is_told l.has_isos l.reports) (drop l.note-index l.notes))
+    l.lines ++ map (note_line l.name) (filter (is_told l.has_isos l.reports) (drop l.note-index l.notes))
     ≡ map (note_line l.name) (filter (is_told l.has_isos l.reports) l.notes)

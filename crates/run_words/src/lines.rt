@@ -1,9 +1,10 @@
-// Whether the lines that say more are left out.
+// Which lines on the error output are asked for.
 ghost use Rattle.std.specs.Prelude.{◌≡◌};
 ghost use Rattle.run_words.specs.Orders as spec;
 ghost use Rattle.run_words.specs.Shown.{shown_target};
 
 use crate::order::Target;
+use run_choices::Unread;
 
 impl<'a> Target<'a> {
     /// Whether the lines that say more, which begin with two blanks, are left out.
@@ -12,7 +13,17 @@ impl<'a> Target<'a> {
     {
         match self {
             Target::Files(mode, _) => mode.quiet,
-            Target::Text(_, _, quiet) => *quiet,
+            Target::Text(_, _, quiet, _) => *quiet,
+        }
+    }
+
+    /// Which of the items that can't be read are told of.
+    pub fn unread(&self) -> Unread
+        ensures unread { result ≡ spec.unread_of (shown_target self.now) }
+    {
+        match self {
+            Target::Files(mode, _) => mode.unread,
+            Target::Text(_, _, _, unread) => *unread,
         }
     }
 }

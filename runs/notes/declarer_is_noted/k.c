@@ -1,0 +1,1 @@
+void k(void) { f(1); }

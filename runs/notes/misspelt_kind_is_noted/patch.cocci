@@ -1,0 +1,4 @@
+@@
+expresion e, g;
+@@
+- f(e);

@@ -1,0 +1,9 @@
+@@
+@@
+- f(1);
+
+@@
+identifier i;
+expresion *e;
+@@
+- i(e);

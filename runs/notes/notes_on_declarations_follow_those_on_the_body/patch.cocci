@@ -1,0 +1,6 @@
+@@
+typ t;
+struct s *s;
+identifer i;
+@@
+- f(t, e == 0);

@@ -1,0 +1,10 @@
+void k(void)
+{
+	asm("nop");
+	use(y);
+}
+void l(void)
+{
+	set(y);
+	use(y);
+}

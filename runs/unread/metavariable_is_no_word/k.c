@@ -1,0 +1,9 @@
+void k(void)
+{
+	asm("nop");
+	f(y);
+}
+void l(void)
+{
+	f(x);
+}

@@ -1,0 +1,5 @@
+void k(void)
+{
+	asm("nop");
+	put(bus);
+}

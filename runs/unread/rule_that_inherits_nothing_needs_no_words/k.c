@@ -1,0 +1,9 @@
+void k(void)
+{
+	asm("nop");
+	use(y);
+}
+void l(void)
+{
+	use(y);
+}

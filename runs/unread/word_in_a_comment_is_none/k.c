@@ -1,0 +1,10 @@
+void k(void)
+{
+	asm("nop");
+	/* f(x); */
+	h("f(x)");
+}
+void l(void)
+{
+	f(x);
+}

@@ -1,0 +1,5 @@
+@@
+expression x;
+@@
+- kfree_sensitive(x);
++ kfree_secret(x);

@@ -1,0 +1,5 @@
+@@
+expression p, n;
+@@
+- kzalloc(n, p)
++ kzalloc_new(p, n)

@@ -1,0 +1,5 @@
+@@
+expression x;
+@@
+- no_such_function_here(x);
++ other(x);

@@ -1,5 +1,5 @@
 -- Which plus code is instantiated: a block whose metavariable has a term; none whose metavariable has no value or a place.
-use Rattle.std.specs.Prelude.{◌≡◌, ℕ, Bool, true, false, List, [], ◌∷◌, Option, None, Some, refl, codes}
+use Rattle.std.specs.Prelude.{◌≡◌, false, List, [], ◌∷◌, Option, None, Some, refl, codes}
 use Rattle.c_terms.specs.declared.token.Token.{Token}
 use Rattle.c_terms.specs.declared.token.TokenKind.TheVariants as kind
 use Rattle.c_terms.specs.declared.token.MetaKind.TheVariants as meta
@@ -11,7 +11,6 @@ use Rattle.smpl_patch.specs.declared.pattern.VarDecl.{VarDecl}
 use Rattle.smpl_patch.specs.declared.pattern.VarKind.TheVariants as var_kind
 use Rattle.smpl_patch.specs.declared.pattern.PlusBlock.{PlusBlock}
 use Rattle.smpl_patch.specs.Wants.{anything}
-use Rattle.edit_marks.specs.Blocks.{Environment}
 use Rattle.insert_laws.specs.Instantiated.{IsInstantiatedBlock}
 
 abbrev x : Var

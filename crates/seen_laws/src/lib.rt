@@ -9,7 +9,7 @@
 //! The functions do nothing.
 #![tactic(auto)]
 
-ghost use Rattle.std.specs.Prelude.{◌≡◌, ℕ, Bool, true, false, List, Some};
+ghost use Rattle.std.specs.Prelude.{◌≡◌, ℕ, true, false, List, Some};
 ghost use Rattle.c_terms.specs.declared.tree.Tree.{Tree};
 ghost use Rattle.c_types.specs.Tables.{ItemTypes};
 ghost use Rattle.cfg_build.specs.declared.cfg_graph.label.NodeLabel.{NodeLabel};

@@ -1,26 +1,17 @@
 -- If an atom matches, each of its sure variables that is no position has a term.
-use Rattle.std.proofs.Common.{◌≡◌, ℕ, suc, Bool, true, false, ◌&&◌, ◌||◌, not, refl, sym, ap, ◌∙◌, subst, List, [], ◌∷◌, map, length, Option, None}
-use Rattle.std.proofs.Common.{Some, slice_get, ⊎_elim, if◌then◌else◌}
-use Rattle.std.specs.List.{list_any, list_all}
-use Rattle.std.proofs.lemmas.List.Folds.{list_any-append}
-use Rattle.c_terms.specs.declared.label.Label.{Label}
+use Rattle.std.proofs.Common.{◌≡◌, ℕ, suc, Bool, true, ◌&&◌, refl, List, [], ◌∷◌}
+use Rattle.std.proofs.Common.{slice_get, ⊎_elim}
+use Rattle.std.specs.List.{list_any}
 use Rattle.c_terms.specs.declared.token.Token.{Token}
-use Rattle.c_terms.specs.declared.token.TokenKind.{TokenKind}
 use Rattle.c_terms.specs.declared.token.TokenKind.TheVariants as token_kind
 use Rattle.c_terms.specs.declared.tree.Tree.{Tree}
-use Rattle.c_terms.specs.declared.tree.Tree.TheVariants.{Leaf, Branch}
-use Rattle.c_terms.specs.Trees.{join, leaves}
+use Rattle.c_terms.specs.Trees.{leaves}
 use Rattle.c_terms.specs.Places.{Place as Seat}
-use Rattle.c_terms.proofs.Induct.{tree_cases}
-use Rattle.c_terms.proofs.SameLemmas.{out-Leaf, out-Branch}
-use Rattle.c_terms.proofs.TreeLemmas.{leaves-Branch}
 use Rattle.c_types.specs.Tables.{ItemTypes}
 use Rattle.smpl_terms.specs.declared.var.Var.{Var}
 use Rattle.smpl_terms.specs.declared.value.Value.TheVariants.{Place}
 use Rattle.smpl_terms.specs.Values.{same}
-use Rattle.smpl_terms.specs.Vars.{same_var}
 use Rattle.smpl_terms.specs.Environments.{Environment}
-use Rattle.smpl_terms.proofs.VarLaws.{same_var-equal}
 use Rattle.cfg_build.specs.declared.cfg_graph.label.NodeKind.{NodeKind}
 use Rattle.cfg_build.specs.declared.cfg_graph.label.NodeLabel.{NodeLabel}
 use Rattle.cfg_build.specs.CfgGraph.Flow.{Flow}
@@ -28,15 +19,15 @@ use Rattle.smpl_patch.specs.declared.pattern.VarDecl.{VarDecl}
 use Rattle.smpl_patch.specs.declared.pattern.PatToken.{PatToken}
 use Rattle.smpl_patch.specs.declared.pattern.Pattern.{Pattern}
 use Rattle.smpl_patch.specs.declared.pattern.Spot.{Spot}
-use Rattle.smpl_patch.specs.Held.{is_split_into_nodes, is_held, kept, held_at, held}
-use Rattle.smpl_patch.specs.Patterns.{declared_as, is_var_of, is_meta_of, is_position_of, is_own, held_sure, in_first, sure}
+use Rattle.smpl_patch.specs.Held.{held}
+use Rattle.smpl_patch.specs.Patterns.{is_meta_of, is_position_of, is_own, held_sure, in_first, sure}
 use Rattle.pat_match.specs.Spots.{seats}
 use Rattle.pat_match.specs.Roles.{role_of}
 use Rattle.pat_match.specs.declared.role.NodeRole.{NodeRole}
-use Rattle.pat_match.specs.Matching.{var_passes, positions_pass, meta_passes, token_passes, keeps, is_live, fits_seat, matches}
+use Rattle.pat_match.specs.Matching.{token_passes, keeps, is_live, fits_seat, matches}
 use Rattle.ctl_fixpoint.specs.CtlHolds.Holding.{atom_at, brace_at}
 use Rattle.ctl_fixpoint.specs.CtlHolds.BoundLaw.{SureStand}
-use Rattle.ctl_fixpoint.proofs.CtlHolds.TestLemmas.{or_cases, or_left, or_right, and_left, and_right, any_found, all_has}
+use Rattle.ctl_fixpoint.proofs.CtlHolds.TestLemmas.{or_cases, and_left, and_right, any_found, all_has}
 use Rattle.ctl_fixpoint.proofs.CtlHolds.AtomLemmas.{label_of}
 use Rattle.insert_laws.specs.TermLaws.Terms.{is_term, IsNoPosition}
 use Rattle.insert_laws.proofs.TermLaws.HeldLemmas.{held_has_term}

@@ -1,8 +1,7 @@
 -- Each variable that a formula binds has a term. Proof: by induction on the formula, both polarities together.
-use Rattle.std.proofs.Common.{◌≡◌, ℕ, suc, zero, ◌<◌, Bool, true, false, ◌||◌, not, cond, refl, sym, ap, ◌∙◌, subst, arith, List, [], ◌∷◌, length}
-use Rattle.std.proofs.Common.{map, Option, None, Some, slice_get, ⊎_elim, Contains}
+use Rattle.std.proofs.Common.{◌≡◌, ℕ, suc, zero, ◌<◌, Bool, true, false, ◌||◌, refl, sym, ap, ◌∙◌, subst, arith, List}
+use Rattle.std.proofs.Common.{map, slice_get, ⊎_elim, Contains}
 use Rattle.std.proofs.lemmas.List.Elements.{Contains-append_right}
-use Rattle.cfg_build.specs.declared.cfg_graph.label.NodeLabel.{NodeLabel}
 use Rattle.cfg_build.specs.CfgGraph.Values.{terms_of, places_of}
 use Rattle.cfg_build.specs.CfgGraph.Flow.{Flow, IsSound, count_of, succ_of, past_of, down_of}
 use Rattle.cfg_build.proofs.CfgGraph.ValueLemmas.{label-place}
@@ -11,7 +10,7 @@ use Rattle.smpl_terms.specs.declared.value.Value.{Value}
 use Rattle.smpl_terms.specs.declared.value.Value.TheVariants.{Term, Place}
 use Rattle.smpl_terms.specs.Vars.{same_var}
 use Rattle.smpl_terms.specs.Environments.{Environment, change}
-use Rattle.smpl_terms.proofs.VarLaws.{same_var-sym, same_var-equal}
+use Rattle.smpl_terms.proofs.VarLaws.{same_var-equal}
 use Rattle.smpl_patch.specs.declared.pattern.VarDecl.{VarDecl}
 use Rattle.smpl_patch.specs.declared.pattern.PatToken.{PatToken}
 use Rattle.smpl_patch.specs.declared.pattern.Pattern.{Pattern}
@@ -22,7 +21,7 @@ use Rattle.ctl_formula.specs.Bounds.{bound, bound_not}
 use Rattle.ctl_fixpoint.specs.CtlHolds.Values.{values_of}
 use Rattle.ctl_fixpoint.specs.CtlHolds.Parts.{EachPattern}
 use Rattle.ctl_fixpoint.specs.CtlHolds.Holding.{is_open, is_close}
-use Rattle.ctl_fixpoint.specs.CtlHolds.Rounds.{passes_there, rounds, holds}
+use Rattle.ctl_fixpoint.specs.CtlHolds.Rounds.{rounds, holds}
 use Rattle.ctl_fixpoint.specs.CtlHolds.BoundLaw.{SureStand}
 use Rattle.ctl_fixpoint.proofs.CtlHolds.TestLemmas.{or_cases, and_left, and_right, or_false, and_false, true_or_false, not_both, not_true}
 use Rattle.ctl_fixpoint.proofs.CtlHolds.TestLemmas.{not_false, Contains-map, any_found, all_has, all_lacks, any_lacks}

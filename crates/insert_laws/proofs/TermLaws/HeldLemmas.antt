@@ -1,5 +1,5 @@
 -- If a form fits at a node, each sure variable of its compared part that is no position has a term.
-use Rattle.std.proofs.Common.{◌≡◌, ℕ, suc, ◌+◌, Bool, true, false, ◌&&◌, ◌||◌, not, nat_eq, refl, sym, ap, ◌∙◌, List, [], ◌∷◌, map, length, Option}
+use Rattle.std.proofs.Common.{◌≡◌, ℕ, suc, Bool, true, false, ◌&&◌, ◌||◌, not, refl, sym, ap, ◌∙◌, List, [], ◌∷◌, map, length, Option}
 use Rattle.std.proofs.Common.{Some, None, ⊎_elim, if◌then◌else◌}
 use Rattle.c_terms.specs.declared.label.Label.{Label}
 use Rattle.c_terms.specs.declared.label.Label.TheVariants as label
@@ -7,7 +7,7 @@ use Rattle.c_terms.specs.declared.shape.Shape.{Shape}
 use Rattle.c_terms.specs.declared.shape.Shape.TheVariants as shape
 use Rattle.c_terms.specs.declared.tree.Tree.{Tree, out-Tree}
 use Rattle.c_terms.specs.declared.tree.Tree.TheVariants.{Leaf, Branch}
-use Rattle.c_terms.specs.Shapes.{shape_of, is_head_label, is_body, is_tail}
+use Rattle.c_terms.specs.Shapes.{shape_of, is_head_label}
 use Rattle.c_terms.proofs.SameLemmas.{out-Leaf, out-Branch}
 use Rattle.c_terms.proofs.Induct.{tree_cases}
 use Rattle.c_types.specs.Tables.{ItemTypes}

@@ -4,20 +4,19 @@ use Rattle.std.proofs.Common.{refl, sym, ap, option_map, option_and_then}
 use Rattle.std.specs.List.{list_all}
 use Rattle.std.specs.Str.{is_utf8}
 use Rattle.std.specs.Option.{option_map_or}
-use Rattle.run_words.specs.declared.order.Mode.{Mode}
 use Rattle.run_words.specs.declared.option_name.OptionName.TheVariants.{Check, Define, Generate as GenerateName, Functions, InPlace, IsoFile, Witnesses}
 use Rattle.run_words.specs.declared.fault.Need.TheVariants as need
 use Rattle.run_words.specs.declared.fault.WordFault.{WordFault}
 use Rattle.run_words.specs.declared.fault.WordFault.TheVariants.{Apart, ApartFromFiles, Needed}
-use Rattle.run_words.specs.Options.{Options, options_of}
-use Rattle.run_words.specs.Values.{seed_in, count_in, names_in}
+use Rattle.run_words.specs.Options.{Options}
+use Rattle.run_words.specs.Values.{seed_in, count_in}
 use Rattle.run_words.specs.OptionNames.{first_of}
 use Rattle.run_words.specs.Orders.{Order, Apply, Generate, OnFiles, OnText, Say, are_filled, asks_text, defined_in, editing, generating, has_files}
 use Rattle.run_words.specs.Orders.{has_jobs, has_unread, is_about_files, is_about_patches, mode_in, most_functions, on_text, order_of, ordered}
 use Rattle.run_words.specs.Orders.{saying_in, told_in, working}
-use Rattle.run_words.specs.Faults.{apart_fault, edit_faults, file_faults, lacks_file, lacks_functions, lacks_patch, need_fault, options_fault, told_if}
+use Rattle.run_words.specs.Faults.{apart_fault, edit_faults, file_faults, lacks_file, lacks_functions, need_fault, options_fault, told_if}
 use Rattle.run_words.specs.Faults.{value_fault, word_fault}
-use Rattle.run_words.specs.FlagLaws.Flags.{SameButFlags, order_with, target_with, with_flags}
+use Rattle.run_words.specs.FlagLaws.Flags.{SameButFlags, order_with, with_flags}
 use Rattle.run_words.proofs.JobLaws.FaultLemmas.{fault_of_options}
 
 pub map_cond : {X Y : Type 0} (f : X → Y) (b : Bool) (x : Option X) → cond b (option_map f x) None ≡ option_map f (cond b x None)

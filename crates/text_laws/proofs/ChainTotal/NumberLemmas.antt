@@ -1,6 +1,6 @@
 -- The numbers of a list, sorted and without duplicates.
-use Rattle.std.proofs.Common.{◌≡◌, ◌<◌, ◌+◌, ◌⊎◌, ◌↔◌, ℕ, zero, suc, inl, inr, refl, sym, ◌∙◌, subst, arith, List, [], ◌∷◌, length}
-use Rattle.std.specs.Prelude.{Contains, slice_index, slice_index_or}
+use Rattle.std.proofs.Common.{◌≡◌, ◌<◌, ◌⊎◌, ◌↔◌, ℕ, zero, suc, inl, inr, refl, sym, subst, arith, List, [], ◌∷◌, length}
+use Rattle.std.specs.Prelude.{Contains, slice_index}
 use Rattle.std.specs.List.Sorted.{IsStrictlyIncreasing}
 use Rattle.wit_forest.proofs.ReachLaws.ReachLemmas.{from_contains, to_contains}
 

@@ -1,5 +1,5 @@
 -- It is impossible that pieces can't be read as items.
-use Rattle.std.proofs.Common.{◌≡◌, ◌≤◌, ◌<◌, ◌⊎◌, ℕ, inl, inr, refl, arith, List, [], ◌∷◌, drop}
+use Rattle.std.proofs.Common.{◌≤◌, ◌<◌, ◌⊎◌, ℕ, inl, inr, refl, arith, List, [], ◌∷◌, drop}
 use Rattle.c_terms.specs.declared.token.Token.{Token}
 use Rattle.c_terms.specs.declared.tree.Tree.{Tree}
 use Rattle.c_terms.specs.Names.{listed_names}

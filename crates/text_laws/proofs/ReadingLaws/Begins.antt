@@ -1,8 +1,6 @@
 -- No item begins after a Stray: the item before it ends with `;` or `}`.
-use Rattle.std.proofs.Common.{◌≡◌, ◌+◌, ◌&&◌, ℕ, zero, suc, Bool, true, false, refl, sym, ap, subst, ◌∙◌, arith, List, [], ◌∷◌, map, take, drop, get_or, ◌-◌}
-use Rattle.std.specs.Prelude.{if◌then◌else◌, All}
-use Rattle.cpp_lines.specs.declared.sign.Bracket.{Bracket}
-use Rattle.cpp_lines.specs.declared.sign.Bracket.TheVariants.{Paren, Square, Brace}
+use Rattle.std.proofs.Common.{◌≡◌, ◌+◌, ℕ, zero, suc, Bool, true, false, refl, sym, ap, subst, ◌∙◌, arith, List, [], ◌∷◌, map, take, drop, get_or, ◌-◌}
+use Rattle.std.specs.Prelude.{if◌then◌else◌}
 use Rattle.cpp_lines.specs.declared.sign.Sign.{Sign}
 use Rattle.cpp_lines.specs.declared.sign.Sign.TheVariants.{Opening, Closing, Semicolon, Attribute, Marker, Other}
 use Rattle.cpp_lines.specs.declared.span.ItemSpan.{ItemSpan}

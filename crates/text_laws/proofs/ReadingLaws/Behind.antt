@@ -1,8 +1,7 @@
 -- If only blanks are between two tokens, the first is a Stray and the second is shown, then the first is shown.
 use Rattle.std.proofs.Common.{◌≡◌, ◌⊎◌, ◌+◌, ◌&&◌, ◌||◌, ℕ, zero, suc, Bool, true, false, not, inl, inr, refl, sym, ap, subst, ◌∙◌, arith, List, [], ◌∷◌}
-use Rattle.std.specs.Prelude.{if◌then◌else◌, Option, None, Some, slice_get, ◌==◌, codes, Contains, IsSomeAnd}
+use Rattle.std.specs.Prelude.{if◌then◌else◌, Option, None, Some, slice_get, ◌==◌, codes}
 use Rattle.std.specs.Str.{bytes_eq}
-use Rattle.std.specs.Option.{option_map_or}
 use Rattle.std.proofs.lemmas.Bool.Decides.{Decides-eqb}
 use Rattle.std.proofs.lemmas.Slice.Eq.{bytes_eq-Decides}
 use Rattle.c_terms.specs.declared.token.TokenKind.{TokenKind}
@@ -18,7 +17,6 @@ use Rattle.c_lexer.specs.Lexes.{Cuts, IsFirstPiece}
 use Rattle.c_lexer.proofs.Each.{Each, member, contained}
 use Rattle.cpp_lines.specs.declared.directive.Directive.{Directive}
 use Rattle.cpp_lines.specs.declared.directive.Directive.TheVariants as line
-use Rattle.cpp_lines.specs.declared.sign.Bracket.{Bracket}
 use Rattle.cpp_lines.specs.declared.sign.Bracket.TheVariants.{Paren, Square, Brace}
 use Rattle.cpp_lines.specs.declared.sign.Sign.{Sign}
 use Rattle.cpp_lines.specs.declared.sign.Sign.TheVariants.{Opening, Closing, Semicolon, Attribute, Marker, Other}

@@ -1,8 +1,7 @@
 -- The tokens of trees that are read.
-use Rattle.std.proofs.Common.{◌≡◌, ◌⊎◌, ◌-◌, ℕ, zero, suc, Bool, true, false, inl, inr, refl, sym, ap, subst, ◌∙◌, List, [], ◌∷◌, map, take, drop, get_or}
-use Rattle.std.specs.Prelude.{Option, None, Some, IfSome, All, slice_get, slice_range}
+use Rattle.std.proofs.Common.{◌≡◌, ◌-◌, ℕ, zero, suc, Bool, true, false, inl, inr, refl, sym, subst, List, [], ◌∷◌, map, take, drop, get_or}
+use Rattle.std.specs.Prelude.{Some, All}
 use Rattle.std.proofs.lemmas.List.Elements.{All-nil, All-cons}
-use Rattle.c_terms.specs.declared.token.Token.{Token}
 use Rattle.c_terms.specs.declared.token.TokenKind.{TokenKind}
 use Rattle.c_terms.specs.declared.token.TokenKind.TheVariants.{Name, Keyword, Number, Char, Str, Punct, Stray, Meta, Dots, Pat}
 use Rattle.c_terms.specs.declared.tree.Tree.{Tree}

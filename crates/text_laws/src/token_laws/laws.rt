@@ -1,5 +1,5 @@
 // Laws of the states that rules lead to. The functions do nothing.
-ghost use Rattle.std.specs.Prelude.{◌≡◌, ℕ, Bool, List, All, length};
+ghost use Rattle.std.specs.Prelude.{◌≡◌, ℕ, Bool, List, length};
 ghost use Rattle.c_lexer.specs.Pieces.{TextPiece};
 ghost use Rattle.c_lexer.specs.Lexes.{Lexes};
 ghost use Rattle.c_lexer.specs.Ids.{ids_of};

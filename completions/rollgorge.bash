@@ -4,7 +4,7 @@ _rollgorge() {
   COMPREPLY=()
   case ${COMP_WORDS[COMP_CWORD - 1]} in
     --sp-file) COMPREPLY=($(compgen -f -X '!*.cocci' -- "$word") $(compgen -d -- "$word")); return ;;
-    --unread) COMPREPLY=(); return ;;
+    --unread) COMPREPLY=($(compgen -W 'all needed none' -- "$word")); return ;;
     --iso-file) COMPREPLY=($(compgen -f -X '!*.iso' -- "$word") $(compgen -d -- "$word")); return ;;
     --define) COMPREPLY=(); return ;;
     --jobs) COMPREPLY=(); return ;;

@@ -4,7 +4,7 @@ complete -c rollgorge -l in-place -d 'store each file that changes; its text isn
 complete -c rollgorge -l witnesses -d 'print what each rule finds, in place of the text'
 complete -c rollgorge -l check -d 'print the names of files in which something is found; status 8 if there is one'
 complete -c rollgorge -l quiet -d 'leave out the lines that say more, which begin with two blanks'
-complete -c rollgorge -l unread -x -d 'tell of items that can't be read: all, needed or none'
+complete -c rollgorge -l unread -x -a 'all needed none' -d 'which items that can\'t be read are told of'
 complete -c rollgorge -l iso-file -x -a '(__fish_complete_suffix .iso)' -d 'isomorphisms; examples/standard.iso has the usual ones'
 complete -c rollgorge -l define -x -d 'the virtual names that hold'
 complete -c rollgorge -l jobs -x -d 'match n items at a time, 1 to 64; the answer is the same'

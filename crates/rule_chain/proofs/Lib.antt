@@ -7,6 +7,7 @@ pub mod NoteLemmas
 pub mod WordLemmas
 pub mod StandLemmas
 pub mod PassLemmas
+pub mod ToldLemmas
 pub mod AlikeLemmas
 pub mod RuleWitnesses
 pub mod RuleEdits

@@ -54,9 +54,7 @@ use Rattle.rule_chain.specs.FileWitnesses.Seen.{seen_graph}
 use Rattle.rule_chain.specs.FileWitnesses.Found.{witnesses_in, is_large, found_from, is_large_from, found_under, is_large_under, brings}
 use Rattle.rule_chain.specs.RuleMatches.Matching.{rule_share, rule_projections}
 use Rattle.rule_chain.specs.declared.rule_run.fault.FileFault.{FileFault}
-use Rattle.rule_chain.specs.declared.rule_run.state.SkipNote.{SkipNote}
-use Rattle.rule_chain.specs.RuleRun.Notes.{item_token}
-use Rattle.rule_chain.specs.RuleRun.Needed.{is_word_at, holds_needed, may_match, needed_from, ran_after}
+use Rattle.rule_chain.specs.RuleRun.Needed.{is_word_at, holds_words, may_match, ran_after}
 use Rattle.rule_chain.specs.declared.rule_run.state.FileState.{FileState}
 use Rattle.rule_chain.specs.RuleRun.Outcomes.{AreFindingsOf}
 use Rattle.rule_chain.specs.RuleRun.States.{Chained, first_state, told_notes}
@@ -65,7 +63,8 @@ use Rattle.rule_chain.specs.RuleRun.OneRule.IsFault.{too_many_witnesses, too_man
 use Rattle.rule_chain.specs.Chain.{Outcome, Done, Runs, Chain, is_followed}
 use Rattle.rule_chain.specs.Passed.{StandsIn, LacksWord, IsUntouched}
 use Rattle.rule_chain.proofs.FileWitnesses.LackLemmas.{nothing_without}
-use Rattle.rule_chain.proofs.WordLemmas.{lacks_needed}
+use Rattle.rule_chain.proofs.NoteLemmas.{none_where}
+use Rattle.rule_chain.proofs.WordLemmas.{formula_needs, lacks_words}
 
 -- ---- what the pieces of a text are stands in it
 
@@ -199,15 +198,18 @@ module _ (bytes : List ℕ) (pieces : List TextPiece) (text : text_of pieces ≡
       (items_of (signs_of (record { pieces = pieces; shown = reads.0 }))) items reads.2 i
 
   module _ (number : ℕ) (rule : Rule) (lacks : LacksWord bytes rule) (ran : List Rule) where
+    needed : needs lacks.0 (formula_of rule) ≡ true
+    needed = formula_needs rule lacks.0 lacks.1.0
+
     calm : is_too_much defined number rule (still ran) ≡ false
-    calm = none_large number rule lacks.0 lacks.1.0 items (lacks_all lacks.0 lacks.1.1) (rule_projections defined [] number rule items first_file_envs)
+    calm = none_large number rule lacks.0 needed items (lacks_all lacks.0 lacks.1.1) (rule_projections defined [] number rule items first_file_envs)
 
     nothing : file_witnesses defined number rule (still ran) ≡ []
-    nothing = none_found number rule lacks.0 lacks.1.0 items (lacks_all lacks.0 lacks.1.1) (rule_projections defined [] number rule items first_file_envs)
+    nothing = none_found number rule lacks.0 needed items (lacks_all lacks.0 lacks.1.1) (rule_projections defined [] number rule items first_file_envs)
 
     envs_stay : rule_file_envs defined number rule (still ran) ≡ first_file_envs
     envs_stay =
-        all_stay number rule lacks.0 lacks.1.0 items (lacks_all lacks.0 lacks.1.1) (rule_share defined [] number rule items first_file_envs)
+        all_stay number rule lacks.0 needed items (lacks_all lacks.0 lacks.1.1) (rule_share defined [] number rule items first_file_envs)
         first_file_envs
 
     edits_none : (edits : List Edit) → RuleEdits defined number rule (still ran) edits → edits ≡ []
@@ -249,22 +251,20 @@ module _ (bytes : List ℕ) (pieces : List TextPiece) (text : text_of pieces ≡
   no_match span (rule ∷ ran) all =
       let lacks = All-head (LacksWord bytes) rule ran all in
       let file : FileItems = record { pieces = pieces; shown = reads.0; items = items } in
-      let here : holds_needed file span (formula_of rule) ≡ false =
-      lacks_needed file span (formula_of rule) lacks.0 lacks.1.0
+      let here : holds_words file span rule ≡ false = lacks_words file span rule lacks.0 lacks.1.0
       (no_words pieces lacks.0 (λ h. lacks.1.1 (subst (λ (b : List ℕ). StandsIn b lacks.0) text h)) (slice_range reads.0 span.first span.last)) in
       (λ i. here i || no_match span ran (All-tail (LacksWord bytes) rule ran all) i)
 
-  no_notes : (ran : List Rule) → All (LacksWord bytes) ran → (loaded at : ℕ) (more : List Item)
-      → needed_from ran loaded 0 (record { pieces = pieces; shown = reads.0; items = items }) at more ≡ []
-  no_notes ran all loaded at [] = refl
-  no_notes ran all loaded at (Parsed t ∷ more) = no_notes ran all loaded (suc at) more
-  no_notes ran all loaded at (Skipped span why ∷ more) =
-      let file : FileItems = record { pieces = pieces; shown = reads.0; items = items } in
-      let note : SkipNote = record { reading = 0; item = at; why = why; token = item_token loaded file span } in
-      (λ i. cond (no_match span ran all i) (note ∷ needed_from ran loaded 0 file (suc at) more) (no_notes ran all loaded (suc at) more i))
-
   untouched : (ran : List Rule) → All (LacksWord bytes) ran → IsUntouched bytes (still ran)
-  untouched ran all = record { text = text; found = refl; file_envs = refl; needed = no_notes ran all (length (ids_of pieces)) 0 items }
+  untouched ran all = record {
+    text = text;
+    found = refl;
+    file_envs = refl;
+    needed = none_where (λ span. may_match file_now span ran) (λ span. no_match span ran all) (length (ids_of pieces)) 0 file_now 0 items;
+  }
+    where
+      file_now : FileItems
+      file_now = record { pieces = pieces; shown = reads.0; items = items }
 
   runs_still : (number : ℕ) (rules : List Rule) → All (LacksWord bytes) rules → (ran : List Rule) → All (LacksWord bytes) ran → (end : Outcome)
       → Runs defined number rules (still ran) end → (s : Chained) × ((end ≡ Done s) × IsUntouched bytes s)

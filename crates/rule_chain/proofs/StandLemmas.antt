@@ -1,5 +1,5 @@
 -- What a search of bytes for words says.
-use Rattle.std.proofs.Common.{◌≡◌, ◌<◌, ◌+◌, ℕ, zero, suc, Bool, true, false, sym, ap, ◌∙◌, subst, arith}
+use Rattle.std.proofs.Common.{◌≡◌, ◌<◌, ◌+◌, ℕ, zero, suc, Bool, true, false, sym, ◌∙◌, subst, arith}
 use Rattle.std.proofs.Common.{List, [], ◌∷◌, ◌++◌, length, take, get_or, None, Some}
 use Rattle.std.specs.Prelude.{All, Option, is_some}
 use Rattle.std.specs.List.{AllZip}
@@ -11,11 +11,11 @@ use Rattle.run_choices.specs.declared.unread.Unread.TheVariants as unread
 use Rattle.c_terms.specs.Same.{same_bytes}
 use Rattle.c_terms.proofs.SameLaws.{bytes-refl}
 use Rattle.smpl_patch.specs.declared.rule.Rule.{Rule}
-use Rattle.ctl_formula.specs.Plain.{Plain}
-use Rattle.ctl_fixpoint.specs.RequiredWords.Words.{needs, is_among}
+use Rattle.ctl_fixpoint.specs.RequiredWords.Words.{is_among}
 use Rattle.ctl_fixpoint.proofs.RequiredWords.WordLemmas.{or_left, or_right}
 use Rattle.rule_envs.specs.declared.rule_formulas.prepared.PreparedRule.{PreparedRule}
 use Rattle.rule_envs.specs.RuleFormulas.Prepared.{IsPrepared}
+use Rattle.rule_chain.specs.RuleRun.Needed.{needs_word}
 use Rattle.rule_chain.specs.Passed.{StandsIn, LacksWord}
 use Rattle.rule_chain.specs.RuleWords.{AreWordsOf, AreRuleWords, LacksOne}
 
@@ -59,7 +59,7 @@ lacks_at bytes words i w read r lt is same none finds = (
 rule_lacks : (bytes : List ℕ) (rule : Rule) (p : PreparedRule) (words : List (List ℕ)) → IsPrepared rule p → AreWordsOf p words
     → LacksOne bytes words → LacksWord bytes rule
 rule_lacks bytes rule p words is exact lacks =
-    (lacks.0, (ap (λ (f : Plain). needs lacks.0 f) (sym is.formula.formula) ∙ sym (exact lacks.0) ∙ lacks.1.0, lacks.1.1))
+    (lacks.0, (sym (λ i. needs_word (is.formula.tokens i) (is.formula.formula i) lacks.0) ∙ sym (exact lacks.0) ∙ lacks.1.0, lacks.1.1))
 
 pub rules_lack : (bytes : List ℕ) (rules : List Rule) (prepared : List PreparedRule) (words : List (List (List ℕ))) → AllZip IsPrepared rules prepared
     → AllZip AreWordsOf prepared words → All (LacksOne bytes) words → All (LacksWord bytes) rules

@@ -8,7 +8,6 @@ use Rattle.std.proofs.lemmas.List.{append-nil}
 use Rattle.run_choices.specs.declared.unread.Unread.{Unread}
 use Rattle.run_choices.specs.declared.unread.Unread.TheVariants as unread
 use Rattle.cpp_lines.specs.declared.reading.Item.{Item}
-use Rattle.cpp_lines.specs.declared.reading.Item.TheVariants.{Parsed, Skipped}
 use Rattle.c_file.specs.File.{FileItems}
 use Rattle.c_file.specs.Reads.{Reads}
 use Rattle.c_lexer.specs.Pieces.{TextPiece}
@@ -22,7 +21,7 @@ use Rattle.rule_chain.specs.declared.rule_run.fault.FileFault.TheVariants.{NoMem
 use Rattle.rule_chain.specs.declared.rule_run.state.FileState.{FileState}
 use Rattle.rule_chain.specs.declared.rule_run.state.SkipNote.{SkipNote}
 use Rattle.rule_chain.specs.RuleRun.Notes.{notes_on}
-use Rattle.rule_chain.specs.RuleRun.Needed.{needed_from, needed_on}
+use Rattle.rule_chain.specs.RuleRun.Needed.{may_match, needed_on}
 use Rattle.rule_chain.specs.RuleRun.States.{Chained, IsCut, ReadsAgain, first_state, needed_notes, told_notes}
 use Rattle.rule_chain.specs.RuleRun.OneRule.{MayRead}
 use Rattle.rule_chain.specs.RuleRun.Outcomes.{AreFindingsOf, IsAtReading}
@@ -34,6 +33,7 @@ use Rattle.rule_chain.specs.Chain.{Outcome, Done, Refused, Runs, Chain, is_follo
 use Rattle.rule_chain.specs.Results.{AnswersState}
 use Rattle.rule_chain.specs.Passed.{LacksWord, IsUntouched, EndsBy}
 use Rattle.rule_chain.specs.Stops.{AreNumbered, LeadsOn, told_before, told_first, told_last, IsAt, IsLeft, GoesOn, Steps}
+use Rattle.rule_chain.proofs.NoteLemmas.{none_where}
 use Rattle.rule_chain.proofs.StopLemmas.{back_to, Leading, Refusing}
 
 pub followed : (rules : List Rule) (i : ℕ) → i < length rules → is_followed (drop i rules) ≡ true
@@ -49,10 +49,8 @@ none_left defined rules done s all =
 -- ---- the notes that are told
 
 -- if no rule ran, no item is needed
-none_needed : (loaded reading : ℕ) (file : FileItems) (at : ℕ) (items : List Item) → needed_from [] loaded reading file at items ≡ []
-none_needed loaded reading file at [] = refl
-none_needed loaded reading file at (Parsed t ∷ items) = none_needed loaded reading file (suc at) items
-none_needed loaded reading file at (Skipped span why ∷ items) = none_needed loaded reading file (suc at) items
+none_needed : (loaded reading : ℕ) (file : FileItems) → needed_on [] loaded reading file ≡ []
+none_needed loaded reading file = none_where (λ span. may_match file span []) (λ span. refl) loaded reading file 0 file.items
 
 -- all are told of a state over whose reading no rule ran
 told_at_first : (choice : Unread) (r : Reached) (s : Chained) → IsAt choice r s → told_notes choice s ≡ r.skipped
@@ -60,7 +58,7 @@ told_at_first unread.All r s at = at.skipped
 told_at_first unread.Needed r s at =
     let file : FileItems = record { pieces = s.pieces; shown = s.needed.shown; items = s.items } in
     (λ i. s.needed.earlier ++ needed_on (at.none_ran i) s.loaded s.reading file)
-    ∙ ap (λ (notes : List SkipNote). s.needed.earlier ++ notes) (none_needed s.loaded s.reading file 0 s.items)
+    ∙ ap (λ (notes : List SkipNote). s.needed.earlier ++ notes) (none_needed s.loaded s.reading file)
     ∙ append-nil s.needed.earlier ∙ at.skipped
 told_at_first unread.None r s at = at.skipped
 

@@ -14,8 +14,6 @@ use Rattle.c_terms.specs.Same.{same_bytes}
 use Rattle.c_terms.proofs.BareLaws.{same_bytes-equal}
 use Rattle.c_terms.proofs.SameLaws.{bytes-refl}
 use Rattle.cpp_lines.specs.declared.span.ItemSpan.{ItemSpan}
-use Rattle.cpp_lines.specs.declared.reading.Item.{Item}
-use Rattle.cpp_lines.specs.declared.reading.Item.TheVariants.{Parsed, Skipped}
 use Rattle.c_file.specs.File.{FileItems}
 use Rattle.smpl_patch.specs.declared.pattern.Pattern.{Pattern}
 use Rattle.smpl_patch.specs.declared.rule.Rule.{Rule}
@@ -31,9 +29,9 @@ use Rattle.ctl_translate.specs.Rules.{formula_of}
 use Rattle.rule_envs.specs.declared.rule_formulas.prepared.PreparedRule.{PreparedRule}
 use Rattle.rule_envs.specs.RuleFormulas.Prepared.{IsPrepared}
 use Rattle.rule_chain.specs.declared.rule_run.state.SkipNote.{SkipNote}
-use Rattle.rule_chain.specs.RuleRun.Notes.{item_token}
-use Rattle.rule_chain.specs.RuleRun.Needed.{words_among, words_of_first, words_in, holds_word, holds_needed, may_match, needed_from, needed_on}
-use Rattle.rule_chain.specs.RuleWords.{AreWordsOf, AreRuleWords, holds_kept, kept_from, kept_on}
+use Rattle.rule_chain.specs.RuleRun.Needed.{words_among, words_of_first, words_in, is_long, needs_word, holds_word, holds_needed, holds_words}
+use Rattle.rule_chain.specs.RuleRun.Needed.{may_match, notes_where, needed_on}
+use Rattle.rule_chain.specs.RuleWords.{AreWordsOf, AreRuleWords, holds_kept, holds_some, kept_on}
 use Rattle.rule_chain.specs.Stops.{AreNumbered, told_last}
 use Rattle.rule_chain.proofs.RunLemmas.{left_of}
 
@@ -126,30 +124,55 @@ if_needed : (a b : Bool) → (not a || b) ≡ true → a ≡ true → b ≡ true
 if_needed true b h needed = h
 if_needed false b h needed = absurd (cc)
 
-lost : (a b : Bool) → a ≡ true → b ≡ false → (not a || b) ≡ true → ⊥
-lost true b needed none h = absurd (cc)
-lost false b needed none h = absurd (cc)
+-- what a rule needs, its formula needs
+pub formula_needs : (rule : Rule) (w : List ℕ) → needs_word rule.tokens (formula_of rule) w ≡ true → needs w (formula_of rule) ≡ true
+formula_needs rule w h = and_right (not (is_long rule.tokens)) (needs w (formula_of rule)) h
 
-module _ (file : FileItems) (span : ItemSpan) (f : Plain) where
-  abbrev asks : List ℕ → Bool
-  asks w = not (needs w f) || holds_word file span w
+short_needs : (long needed : Bool) → long ≡ false → needed ≡ true → (not long && needed) ≡ true
+short_needs true needed h k = absurd (cc)
+short_needs false needed h k = k
 
-  -- it is asked whether the item holds exactly the words that are needed
-  pub same_words : (words : List (List ℕ)) → ((w : List ℕ) → is_among words w ≡ needs w f)
-      → list_all (holds_word file span) words ≡ holds_needed file span f
-  same_words words exact = same_test (list_all (holds_word file span) words) (list_all asks (words_in f))
-      (λ all. each_tells asks (words_in f) (λ w among. not_needed (needs w f) (holds_word file span w)
-      (λ needed. each_told (holds_word file span) words all w (exact w ∙ needed))))
-      (λ all. each_tells (holds_word file span) words (λ w among.
-      let needed : needs w f ≡ true = sym (exact w) ∙ among in
-      if_needed (needs w f) (holds_word file span w) (each_told asks (words_in f) all w (needed_own w f needed)) needed))
+long_needs : (long needed : Bool) → long ≡ true → (not long && needed) ≡ true → ⊥
+long_needs true needed h k = absurd (cc)
+long_needs false needed h k = absurd (cc)
 
-  -- an item that lacks a needed word doesn't hold all
-  pub lacks_needed : (w : List ℕ) → needs w f ≡ true → holds_word file span w ≡ false → holds_needed file span f ≡ false
-  lacks_needed w needed none = by (list_all asks (words_in f)) refl
+module _ (file : FileItems) (span : ItemSpan) (rule : Rule) where
+  abbrev own : Plain
+  own = formula_of rule
+
+  abbrev each_needed : List ℕ → Bool
+  each_needed w = not (needs w own) || holds_word file span w
+
+  -- an item that holds all words of a rule holds each of them
+  pub each_held : holds_words file span rule ≡ true → (w : List ℕ) → needs_word rule.tokens own w ≡ true → holds_word file span w ≡ true
+  each_held h w needed = ⊎_elim
+      (λ long. absurd (long_needs (is_long rule.tokens) (needs w own) long needed))
+      (λ all. if_needed (needs w own) (holds_word file span w)
+      (each_told each_needed (words_in own) all w (needed_own w own (formula_needs rule w needed))) (formula_needs rule w needed))
+      (or_cases (is_long rule.tokens) (holds_needed file span own) h)
+
+  pub all_held : ((w : List ℕ) → needs_word rule.tokens own w ≡ true → holds_word file span w ≡ true) → holds_words file span rule ≡ true
+  all_held held = by (is_long rule.tokens) refl
     where
-      by : (b : Bool) → list_all asks (words_in f) ≡ b → list_all asks (words_in f) ≡ false
-      by true h = absurd (lost (needs w f) (holds_word file span w) needed none (each_told asks (words_in f) h w (needed_own w f needed)))
+      by : (long : Bool) → is_long rule.tokens ≡ long → holds_words file span rule ≡ true
+      by true h = or_left (is_long rule.tokens) (holds_needed file span own) h
+      by false h = or_right (is_long rule.tokens) (holds_needed file span own) (each_tells each_needed (words_in own)
+          (λ w among. not_needed (needs w own) (holds_word file span w)
+          (λ needed. held w (short_needs (is_long rule.tokens) (needs w own) h needed))))
+
+  -- it is asked whether the item holds exactly the words that the rule needs
+  pub rule_words : (words : List (List ℕ)) → ((w : List ℕ) → is_among words w ≡ needs_word rule.tokens own w)
+      → list_all (holds_word file span) words ≡ holds_words file span rule
+  rule_words words exact = same_test (list_all (holds_word file span) words) (holds_words file span rule)
+      (λ all. all_held (λ w needed. each_told (holds_word file span) words all w (exact w ∙ needed)))
+      (λ all. each_tells (holds_word file span) words (λ w among. each_held all w (sym (exact w) ∙ among)))
+
+  -- an item that lacks a word of the rule doesn't hold all
+  pub lacks_words : (w : List ℕ) → needs_word rule.tokens own w ≡ true → holds_word file span w ≡ false → holds_words file span rule ≡ false
+  lacks_words w needed none = by (holds_words file span rule) refl
+    where
+      by : (b : Bool) → holds_words file span rule ≡ b → holds_words file span rule ≡ false
+      by true h = let e : false ≡ true = sym none ∙ each_held h w needed in absurd (cc)
       by false h = h
 
 -- ---- rules with their words
@@ -157,41 +180,39 @@ module _ (file : FileItems) (span : ItemSpan) (f : Plain) where
 -- the words that are kept of a rule are those that its formula needs
 pub kept_of : (rules : List Rule) (prepared : List PreparedRule) (words : List (List (List ℕ))) (n : ℕ) (rule : Rule)
     → AllZip IsPrepared rules prepared → AllZip AreWordsOf prepared words → slice_get rules n ≡ Some rule
-    → (kept : List (List ℕ)) × ((slice_get words n ≡ Some kept) × ((w : List ℕ) → is_among kept w ≡ needs w (formula_of rule)))
+    → (kept : List (List ℕ)) × ((slice_get words n ≡ Some kept) × ((w : List ℕ) → is_among kept w ≡ needs_word rule.tokens (formula_of rule) w))
 kept_of [] prepared words n rule are kept h = absurd (cc)
 kept_of (r ∷ rules) [] words n rule are kept h = absurd are
 kept_of (r ∷ rules) (p ∷ prepared) [] n rule are kept h = absurd kept
 kept_of (r ∷ rules) (p ∷ prepared) (ws ∷ words) zero rule are kept h =
-    let same : r ≡ rule = cc in
-    (ws, (refl, λ w. kept.0 w ∙ ap (λ (g : Plain). needs w g) are.0.formula.formula ∙ ap (λ (x : Rule). needs w (formula_of x)) same))
+    let same : r ≡ rule = cc in (
+      ws,
+      (
+        refl,
+        λ w. kept.0 w ∙ (λ i. needs_word (are.0.formula.tokens i) (are.0.formula.formula i) w)
+            ∙ ap (λ (x : Rule). needs_word x.tokens (formula_of x) w) same,
+      ),
+    )
 kept_of (r ∷ rules) (p ∷ prepared) (ws ∷ words) (suc n) rule are kept h = kept_of rules prepared words n rule are.1 kept.1 h
 
 module _ (rules : List Rule) (prepared : List PreparedRule) (words : List (List (List ℕ))) (are : AllZip IsPrepared rules prepared)
     (kept : AllZip AreWordsOf prepared words) (file : FileItems) where
   pub same_match : (span : ItemSpan) (ran : List Rule) (numbers : List ℕ) → AreNumbered rules ran numbers
-      → list_any (holds_kept words file span) numbers ≡ may_match file span ran
+      → holds_some words numbers file span ≡ may_match file span ran
   same_match span [] [] h = refl
   same_match span [] (n ∷ numbers) h = absurd h
   same_match span (rule ∷ ran) [] h = absurd h
   same_match span (rule ∷ ran) (n ∷ numbers) h =
       let own = kept_of rules prepared words n rule are kept h.0 in
-      let here : holds_kept words file span n ≡ holds_needed file span (formula_of rule) =
+      let here : holds_kept (holds_word file span) words n ≡ holds_words file span rule =
       ap (λ (o : Option (List (List ℕ))). option_map_or (λ (ws : List (List ℕ)). list_all (holds_word file span) ws) o false) own.1.0
-      ∙ same_words file span (formula_of rule) own.0 own.1.1 in
+      ∙ rule_words file span rule own.0 own.1.1 in
       (λ i. here i || same_match span ran numbers h.1 i)
-
-  same_from : (loaded reading : ℕ) (ran : List Rule) (numbers : List ℕ) → AreNumbered rules ran numbers → (at : ℕ) (items : List Item)
-      → kept_from words numbers loaded reading file at items ≡ needed_from ran loaded reading file at items
-  same_from loaded reading ran numbers h at [] = refl
-  same_from loaded reading ran numbers h at (Parsed t ∷ items) = same_from loaded reading ran numbers h (suc at) items
-  same_from loaded reading ran numbers h at (Skipped span why ∷ items) =
-      let note : SkipNote = record { reading = reading; item = at; why = why; token = item_token loaded file span } in
-      (λ i. cond (same_match span ran numbers h i) (note ∷ same_from loaded reading ran numbers h (suc at) items i)
-      (same_from loaded reading ran numbers h (suc at) items i))
 
   pub same_notes : (loaded reading : ℕ) (ran : List Rule) (numbers : List ℕ) → AreNumbered rules ran numbers
       → kept_on words numbers loaded reading file ≡ needed_on ran loaded reading file
-  same_notes loaded reading ran numbers h = same_from loaded reading ran numbers h 0 file.items
+  same_notes loaded reading ran numbers h =
+      ap (λ (test : ItemSpan → Bool). notes_where test loaded reading file 0 file.items) (λ i span. same_match span ran numbers h i)
 
 -- ---- the notes that are told last
 

@@ -3,6 +3,7 @@ pub mod Chain
 pub mod Passed
 pub mod Results
 pub mod Required
+pub mod Told
 -- What is known of a rule that is ready to run, and of the words that it needs, has one proof, so that a struct may keep it.
 pub mod OneProof
 pub mod RuleWords

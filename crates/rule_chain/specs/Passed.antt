@@ -3,9 +3,9 @@ use Rattle.std.specs.Prelude.{ℕ, ◌≡◌, ◌⊎◌, true, All, List, [], �
 use Rattle.run_choices.specs.declared.unread.Unread.{Unread}
 use Rattle.run_choices.specs.declared.unread.Unread.TheVariants as unread
 use Rattle.smpl_patch.specs.declared.rule.Rule.{Rule}
-use Rattle.ctl_fixpoint.specs.RequiredWords.Words.{needs}
 use Rattle.ctl_translate.specs.Rules.{formula_of}
 use Rattle.rule_envs.specs.FileEnvs.{first_file_envs}
+use Rattle.rule_chain.specs.RuleRun.Needed.{needs_word}
 use Rattle.rule_chain.specs.RuleRun.States.{Chained, told_notes, needed_notes}
 use Rattle.rule_chain.specs.Chain.{Outcome, Done, Refused, Chain}
 
@@ -15,7 +15,7 @@ StandsIn bytes w = (before : List ℕ) × ((after : List ℕ) × (bytes ≡ befo
 
 -- the rule needs a word that stands nowhere in the bytes
 abbrev pub LacksWord : List ℕ → Rule → Type 0
-LacksWord bytes rule = (w : List ℕ) × ((needs w (formula_of rule) ≡ true) × (StandsIn bytes w → ⊥))
+LacksWord bytes rule = (w : List ℕ) × ((needs_word rule.tokens (formula_of rule) w ≡ true) × (StandsIn bytes w → ⊥))
 
 -- a state in which nothing has happened to a text: nothing is found, and no item is needed
 pub record IsUntouched (bytes : List ℕ) (s : Chained) : Type 0 where

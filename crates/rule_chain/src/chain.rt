@@ -10,7 +10,7 @@ ghost use Rattle.rule_chain.specs.Results.{IsResult, AnswersState};
 ghost use Rattle.rule_chain.specs.Stops.{IsAt, ComesOf, Steps, IsFurther};
 
 use crate::answers::answer;
-use crate::notes::{with_first, with_last};
+use crate::notes::{NotedReading, with_first, with_last};
 use crate::passing::{is_passed, untouched};
 use crate::patch_rules::PatchRules;
 use crate::reading::Reading;
@@ -145,7 +145,12 @@ fn next_reading<R: Threads + Sync, G: Gate>(
         text,
         ran,
     } = stopped;
-    let skipped = with_last(rules, skipped, loaded, reading, &file, ran.as_slice())?;
+    let noted = NotedReading {
+        file: &file,
+        number: reading,
+        loaded,
+    };
+    let skipped = with_last(workers.alloc, rules, skipped, &noted, ran.as_slice())?;
     match text {
         None => Ok(Step::Ended(answer(workers.alloc, bytes, skipped, findings)?)),
         Some(text) => {
@@ -208,11 +213,12 @@ fn over_readings<R: Threads + Sync, G: Gate>(
 ///
 /// All but the last carry the number of the rule, from 0.
 ///
-/// Unless all items that can't be read are told of, a text is passed over in which each rule lacks a word that it needs: it is
+/// Unless all items that can't be read are told of, a text may be passed over in which each rule lacks a word that it needs: it is
 /// neither cut nor read, and returned as it is. The chain would end so too (law `unread_changes_notes_alone`).
 ///
-/// Costs one [`crate::rule_run::run_rule`] per rule, one reading of the
-/// text at the start, and one after each rule that edits and is followed by another.
+/// Costs one [`crate::rule_run::run_rule`] per rule, one reading of the text at the start, and one after each rule that edits and
+/// is followed by another; unless all notes are told, searches of the text for at most eight words of each rule; and for
+/// notes on needed items one look at the tokens of each skipped item, and for each rule that ran one at each of its words.
 pub fn apply<R: Threads + Sync, G: Gate>(
     workers: &Workers<'_, R, G>,
     rules: &PatchRules<'_>,

@@ -1,7 +1,7 @@
 //! Applies the rules of a patch to the text of a file, one after another.
 //!
-//! [`apply`] runs the whole chain of [`PatchRules`] over one text. It returns the new text, the witnesses, the skipped items
-//! and the environments, or the first fault. The prepared form that rules are run from is made once per patch, by `prepare` of
+//! [`apply`] runs the whole chain of [`PatchRules`] over one text. It returns the new text, the witnesses, the skipped items that
+//! are told of and the environments, or the first fault. A text in which each rule lacks a word may be passed over. The prepared form that rules are run from is made once per patch, by `prepare` of
 //! rule_envs.
 //!
 //! ```text
@@ -34,7 +34,9 @@ mod answers;
 mod chain;
 mod edit_laws;
 mod file_witnesses;
+mod item_texts;
 mod laws;
+mod note_laws;
 mod notes;
 mod passing;
 mod patch_rules;
@@ -51,6 +53,7 @@ mod state;
 pub use chain::apply;
 pub use edit_laws::{ids_of_values_do_not_count, plain_inserts_are_fair};
 pub use laws::{chain_has_one_end, unread_changes_notes_alone};
+pub use note_laws::{needed_words_are_held, told_notes_are_some};
 pub use patch_rules::PatchRules;
 pub use rule_edits::ids_stay_below_next;
 pub use rule_run::{FileFault, SkipNote};

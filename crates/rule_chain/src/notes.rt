@@ -1,20 +1,23 @@
 // Notes on the items that a reading skips.
 ghost use Rattle.std.specs.Prelude.{◌≡◌, ◌++◌, ◌∷◌, [], List, IfOk, option_and_then, slice_get};
 ghost use Rattle.std.specs.List.{list_all, list_any};
+ghost use Rattle.c_terms.specs.Names.{has_name};
 ghost use Rattle.smpl_patch.specs.declared.rule.Rule.{Rule};
 ghost use Rattle.rule_chain.specs.RuleRun.Notes as spec;
-ghost use Rattle.rule_chain.specs.RuleRun.Needed as needed;
-ghost use Rattle.rule_chain.specs.RuleWords.{holds_kept, is_kept, kept_on};
+ghost use Rattle.rule_chain.specs.RuleRun.Needed.{is_where};
+ghost use Rattle.rule_chain.specs.RuleWords.{holds_kept, holds_some, kept_on};
 ghost use Rattle.rule_chain.specs.Stops.{AreNumbered, told_first, told_last};
 
+use crate::item_texts::{TextSet, item_texts};
 use crate::patch_rules::PatchRules;
 use crate::rule_run::SkipNote;
 use c_file::CFile;
 use c_lexer::{Lexed, PieceKind};
-use c_terms::{NoMemory, Text, same_text};
+use c_terms::{NoMemory, Text};
 use cpp_lines::{Item, ItemSpan};
 use run_choices::Unread;
 use sqlite_items::{Items, at as element_at};
+use std::alloc::Global;
 
 /// Returns the id of a token that was loaded.
 fn loaded_id(loaded: u64, kind: PieceKind) -> Option<u64>
@@ -95,91 +98,103 @@ fn with_notes(
     Ok(skipped)
 }
 
-/// Whether the piece with this number is the word.
-fn is_word_at(lexed: &Lexed, word: &[u8], number: usize) -> bool
-    ensures { result ≡ needed.is_word_at lexed.now word.now number }
-{
-    if number >= lexed.count() {
-        return false;
-    }
-    let piece = lexed.piece(number);
-    let text = &lexed.bytes()[piece.start as usize..piece.end as usize];
-    same_text(text, word)
+/// A reading, to tell notes on it.
+#[derive(Clone, Copy)]
+pub struct NotedReading<'f> {
+    pub file: &'f CFile,
+    /// The number of the reading.
+    pub number: u32,
+    /// How many tokens the text that was loaded has: their ids are those below.
+    pub loaded: u64,
 }
 
-/// Whether one of the item's visible tokens is the word. Linear in the item.
-fn holds_word(file: &CFile, span: ItemSpan, word: &[u8]) -> bool
-    ensures { result ≡ needed.holds_word file.now span word.now }
+/// Whether each of the words is among the texts. One look-up for each word, up to the first that isn't.
+fn has_all(texts: &TextSet, words: &[Text]) -> bool
+    ensures { result ≡ list_all (has_name texts.now) words.now }
 {
-    let shown = file.shown();
-    let end = (span.last as usize).min(shown.len());
-    for place in span.first as usize..end {
-        if is_word_at(file.lexed(), word, shown[place] as usize) {
-            return true;
-        }
-    }
-    false
+    words.iter().all(|word| texts.has(word.as_bytes()))
 }
 
-/// Whether the item has all words that the rule with this number needs.
-fn holds_kept(words: &[Items<Text>], file: &CFile, span: ItemSpan, number: u32) -> bool
-    ensures { result ≡ holds_kept words.now file.now span number }
+/// Whether all words that the rule with this number needs are among the texts.
+fn has_kept(texts: &TextSet, words: &[Items<Text>], number: u32) -> bool
+    ensures { result ≡ holds_kept (has_name texts.now) words.now number }
 {
     match element_at(words, number as usize) {
-        Some(kept) => holds_all(file, span, kept.as_slice()),
+        Some(kept) => has_all(texts, kept.as_slice()),
         None => false,
     }
 }
 
-/// Whether the item has all of the words.
-fn holds_all(file: &CFile, span: ItemSpan, words: &[Text]) -> bool
-    ensures { result ≡ list_all (needed.holds_word file.now span) words.now }
+/// Whether all words that one of the rules with these numbers needs are among the texts.
+fn has_some(texts: &TextSet, words: &[Items<Text>], ran: &[u32]) -> bool
+    ensures { result ≡ list_any (holds_kept (has_name texts.now) words.now) ran.now }
 {
-    words
-        .iter()
-        .all(|word| holds_word(file, span, word.as_bytes()))
+    ran.iter().any(|number| has_kept(texts, words, *number))
 }
 
 /// Whether the item has all words that one of the rules with these numbers needs.
-fn may_match(words: &[Items<Text>], file: &CFile, span: ItemSpan, ran: &[u32]) -> bool
-    ensures { result ≡ list_any (holds_kept words.now file.now span) ran.now }
+///
+/// Linear in the item, if no hashes of texts collide, and for each of the rules in the item or in the rule's words, whichever
+/// are fewer.
+fn may_match(
+    alloc: Global,
+    words: &[Items<Text>],
+    ran: &[u32],
+    file: &CFile,
+    span: ItemSpan,
+) -> Result<bool, NoMemory>
+    ensures { IfOk result (λ may. may ≡ holds_some words.now ran.now file.now span) }
 {
-    ran.iter()
-        .any(|number| holds_kept(words, file, span, *number))
+    let texts = item_texts(alloc, file, span)?;
+    Ok(has_some(&texts, words, ran))
 }
 
 /// Whether the item is skipped and has all words that one of the rules with these numbers needs.
-fn is_kept(words: &[Items<Text>], file: &CFile, ran: &[u32], item: &Item) -> bool
-    ensures { result ≡ is_kept words.now file.now ran.now item.now }
+fn is_kept(
+    alloc: Global,
+    words: &[Items<Text>],
+    ran: &[u32],
+    file: &CFile,
+    item: &Item,
+) -> Result<bool, NoMemory>
+    ensures { IfOk result (λ kept. kept ≡ is_where (holds_some words.now ran.now file.now) item.now) }
 {
     match item {
-        Item::Skipped(span, _) => may_match(words, file, *span, ran),
-        Item::Parsed(_) => false,
+        Item::Skipped(span, _) => may_match(alloc, words, ran, file, *span),
+        Item::Parsed(_) => Ok(false),
     }
 }
 
 /// Appends the notes on the needed items of a reading, given the numbers of the rules that ran over it.
 ///
-/// For each item that is skipped, each rule that ran and each of its words this searches the item's tokens, up to the first
-/// rule whose words it has.
+/// For each item that is skipped one look at its tokens, and for each rule that ran at most one at each of the rule's words, up
+/// to the first that the item lacks.
 fn with_needed(
+    alloc: Global,
     words: &[Items<Text>],
     skipped: Items<SkipNote>,
-    loaded: u64,
-    reading: u32,
-    file: &CFile,
+    reading: &NotedReading<'_>,
     ran: &[u32],
 ) -> Result<Items<SkipNote>, NoMemory>
-    ensures { IfOk result (λ now. now ≡ skipped ++ kept_on words.now ran.now loaded reading file.now) }
+    ensures { IfOk result (λ now. now ≡ skipped ++ kept_on words.now ran.now reading.now.loaded reading.now.number reading.now.file.now) }
 {
+    let file = reading.file;
     let items = file.items();
     if items.len() > u32::MAX as usize {
         return Err(NoMemory);
     }
     let mut skipped = skipped;
     for at in 0..items.len() {
-        if is_kept(words, file, ran, &items[at]) {
-            skipped = with_note(skipped, loaded, reading, file, at as u32, &items[at])?;
+        let kept = is_kept(alloc, words, ran, file, &items[at])?;
+        if kept {
+            skipped = with_note(
+                skipped,
+                reading.loaded,
+                reading.number,
+                file,
+                at as u32,
+                &items[at],
+            )?;
         }
     }
     Ok(skipped)
@@ -204,19 +219,18 @@ pub fn with_first(
 
 /// Appends the notes on a reading that are told after the rules with these numbers ran over it: those on needed items, or none.
 pub fn with_last(
+    alloc: Global,
     rules: &PatchRules<'_>,
     skipped: Items<SkipNote>,
-    loaded: u64,
-    reading: u32,
-    file: &CFile,
+    reading: &NotedReading<'_>,
     ran: &[u32],
 ) -> Result<Items<SkipNote>, NoMemory>
     ensures { IfOk result (λ now. (ran_rules : List Rule) → AreNumbered rules.now.patch.now.rules ran_rules ran.now
-        → now ≡ skipped ++ told_last rules.now.unread ran_rules loaded reading file.now) }
+        → now ≡ skipped ++ told_last rules.now.unread ran_rules reading.now.loaded reading.now.number reading.now.file.now) }
 {
     match rules.unread {
         Unread::All => Ok(skipped),
-        Unread::Needed => with_needed(rules.words, skipped, loaded, reading, file, ran),
+        Unread::Needed => with_needed(alloc, rules.words, skipped, reading, ran),
         Unread::None => Ok(skipped),
     }
 }

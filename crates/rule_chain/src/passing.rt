@@ -18,19 +18,24 @@ use run_choices::Unread;
 use sqlite_items::Items;
 use std::alloc::Global;
 
-/// Whether one of the words stands nowhere in the bytes. Searches them once per word, up to the first that is absent.
+/// The most words of a rule that a text is searched for.
+const MOST_SEARCHES: usize = 8;
+
+/// Whether one of the first eight words is found to stand nowhere in the bytes. Searches them once per word, up to the first that
+/// is absent.
 fn lacks_one(words: &[Text], bytes: &[u8]) -> bool
     ensures { result ≡ true → LacksOne bytes.now words.now }
 {
-    for word in words {
-        if memmem::find(bytes, word.as_bytes()).is_none() {
+    let few = words.len().min(MOST_SEARCHES);
+    for number in 0..few {
+        if memmem::find(bytes, words[number].as_bytes()).is_none() {
             return true;
         }
     }
     false
 }
 
-/// Whether each of these lists has a word that stands nowhere in the bytes.
+/// Whether each of these lists is found to have a word that stands nowhere in the bytes.
 fn each_lacks_one(words: &[Items<Text>], bytes: &[u8]) -> bool
     ensures { result ≡ true → All (LacksOne bytes.now) words.now }
 {
@@ -44,7 +49,8 @@ fn each_lacks_one(words: &[Items<Text>], bytes: &[u8]) -> bool
 
 /// Whether the text needn't be read: not all notes are told, and each rule needs a word that stands nowhere in it.
 ///
-/// Searches the text for words of each rule, up to the first rule whose words it has. Takes no memory.
+/// Searches the text for at most eight words of each rule, up to the first rule of which none is found to be absent. Takes no
+/// memory.
 pub fn is_passed(rules: &PatchRules<'_>, bytes: &[u8]) -> bool
     ensures choice { result ≡ true → rules.now.unread ≡ choices.All → ⊥ }
     ensures lack { result ≡ true → All (LacksWord bytes.now) rules.now.patch.now.rules }

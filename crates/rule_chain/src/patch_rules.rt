@@ -21,7 +21,7 @@ pub struct PatchRules<'p> {
     pub prepared: &'p Prepared,
     /// The virtual names that are defined.
     pub defined: &'p [Text],
-    /// Which of the items that can't be read are told of. Unless all are, a text in which each rule lacks a word isn't read.
+    /// Which of the items that can't be read are told of. Unless all are, a text in which each rule lacks a word may be passed over.
     pub unread: Unread,
     /// What [`words_of_rules`](crate::words_of_rules) returned for these.
     pub words: &'p [Items<Text>],

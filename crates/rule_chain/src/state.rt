@@ -12,7 +12,7 @@ pub struct Applied {
     pub bytes: Vec<u8>,
     /// The witnesses of the rules, rule by rule.
     pub witnesses: Items<RuleWitness>,
-    /// The items that were skipped, reading by reading.
+    /// The items that were skipped and are told of, reading by reading.
     pub skipped: Items<SkipNote>,
     /// The environments after the last rule.
     pub envs: Items<Env>,

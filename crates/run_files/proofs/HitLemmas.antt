@@ -7,7 +7,6 @@ use Rattle.std.specs.Option.{option_map_or}
 use Rattle.std.proofs.lemmas.Option.{slice_get-map}
 use Rattle.std.proofs.lemmas.List.{length-map}
 use Rattle.std.proofs.lemmas.Bool.Decides.{leb_tells}
-use Rattle.std.proofs.Math.Path.{fun_ext}
 use Rattle.c_terms.specs.Same.{same_bytes}
 use Rattle.run_choices.specs.declared.unread.Unread.{Unread}
 use Rattle.smpl_patch.specs.declared.rule.Rule.{Rule}

@@ -23,7 +23,6 @@ use Rattle.rule_chain.specs.Chain.{Done, Refused}
 use Rattle.rule_chain.specs.Passed.{EndsBy}
 use Rattle.rule_chain.specs.Results.{AnswersState, IsResult}
 use Rattle.run_words.specs.declared.order.Mode.{Mode}
-use Rattle.run_files.specs.RunLines.Files.{refused_line, fault_place}
 use Rattle.run_files.specs.RunLines.Summary.{summary, rule_lines}
 use Rattle.run_files.specs.RunStages.Stages.{generated_name}
 use Rattle.run_files.specs.declared.tally.Tally.{Tally}

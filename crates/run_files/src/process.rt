@@ -1,5 +1,5 @@
 // What is done with one text.
-ghost use Rattle.std.specs.Prelude.{◌≡◌, ◌≤◌, List, ℕ, Option, length, IfOk, OnOk, IfErr};
+ghost use Rattle.std.specs.Prelude.{◌≡◌, ◌≤◌, ℕ, Option, length, IfOk, OnOk, IfErr};
 ghost use Rattle.c_lexer.specs.Pieces.{most_bytes};
 ghost use Rattle.outer_io.specs.Files.{Files};
 ghost use Rattle.run_acts.specs.Acts.{observed};
@@ -39,9 +39,10 @@ const GENERATED_NAME: &str = "generated";
 /// Applies the patch to the bytes of a file, outputs the result, and returns what is known of it: whether it is refused, whether
 /// it is hit, which is looked at with `check` alone, and whether something was found.
 ///
-/// The acts are, in this order: a line on the error output for each skipped item that is told of, reading by reading; on the output the report,
-/// or else with `check` the name of the file if it is hit, or else the new text; and, with `in_place`, a store of the new text
-/// if it changed. For a refused file, the only act is the line of the refusal. With `quiet`, no line has a place.
+/// The acts are, in this order: a line on the error output for each skipped item that is told of, reading by reading; on the
+/// output the report, or else with `check` the name of the file if it is hit, or else the new text; and, with `in_place`, a
+/// store of the new text if it changed. For a refused file, the only act is the line of the refusal. With `quiet`, no line has
+/// a place.
 ///
 /// Costs one [`apply`](rule_chain::apply), the report or the text, and a copy of the bytes. If items are skipped or edits clash, the
 /// bytes are cut into tokens once more, to say where that is. With `check` it looks once at the text, the patch and the

@@ -6,8 +6,8 @@
 //! - [`jobs_leave_acts`]: words that differ only in their jobs have the same acts.
 //! - [`quiet_leaves_lines_out`]: words that ask for the same with `--quiet` have the same acts, but for lines that begin with
 //!   two blanks.
-//! - [`unread_changes_lines`]: words that differ only in `--unread` have the same acts, but for lines of items that can't be
-//!   read.
+//! - [`unread_changes_lines`]: words with `--unread` have the acts that they have without, but for lines of items that can't be
+//!   read, some of which are left out.
 //! - [`notes_come_last`]: the notes of a run are its last acts, and its status is 0 or 8 then.
 //!
 //! The functions do nothing.

@@ -1,5 +1,5 @@
--- Items that can't be read and in which a place may be missed: those that hold all words that some rule needs which ran.
-use Rattle.std.specs.Prelude.{ℕ, suc, Bool, false, not, ◌||◌, cond, List, [], ◌∷◌, ◌++◌, slice_get, slice_range}
+-- Items that can't be read and that hold all words which some rule needs that ran.
+use Rattle.std.specs.Prelude.{ℕ, suc, nat_lt, Bool, false, not, ◌&&◌, ◌||◌, cond, List, [], ◌∷◌, ◌++◌, length, slice_get, slice_range}
 use Rattle.std.specs.Option.{option_map_or}
 use Rattle.std.specs.List.{list_any, list_all}
 use Rattle.c_terms.specs.declared.token.Token.{Token}
@@ -12,13 +12,14 @@ use Rattle.cpp_lines.specs.declared.reading.Item.{Item}
 use Rattle.cpp_lines.specs.declared.reading.Item.TheVariants.{Parsed, Skipped}
 use Rattle.c_file.specs.File.{FileItems}
 use Rattle.smpl_patch.specs.declared.rule.Rule.{Rule}
+use Rattle.smpl_patch.specs.declared.pattern.PatToken.{PatToken}
 use Rattle.ctl_formula.specs.Plain.{Plain, True, Atom, EarlyExit, BraceOpen, BraceClose, Inside, Outside, Not, And, Or, AX, EX, AU}
 use Rattle.ctl_formula.specs.Plain.{EU, After, InBranch, Exists}
 use Rattle.ctl_fixpoint.specs.RequiredWords.Words.{is_word_kind, needs}
 use Rattle.ctl_translate.specs.Rules.{formula_of}
 use Rattle.env_parts.specs.Parts.{Pairs}
 use Rattle.rule_chain.specs.declared.rule_run.state.SkipNote.{SkipNote}
-use Rattle.rule_chain.specs.RuleRun.Notes.{item_token}
+use Rattle.rule_chain.specs.RuleRun.Notes.{notes_from}
 
 -- ---- words of a formula
 
@@ -32,7 +33,7 @@ abbrev pub words_of_first : List Tree → List (List ℕ)
 words_of_first [] = []
 words_of_first (form ∷ forms) = words_among (leaves form)
 
--- Those of the first forms of its patterns. No other word can be one that the formula needs.
+-- Those of the first forms of its patterns. No other word can be one that the formula needs; so law `needed_words_are_held`.
 abbrev pub words_in : Plain → List (List ℕ)
 words_in True = []
 words_in (Atom p) = words_of_first p.forms
@@ -52,6 +53,17 @@ words_in (After f) = words_in f
 words_in (InBranch i f) = words_in f
 words_in (Exists x f) = words_in f
 
+-- the most tokens of a rule whose words are looked for
+abbrev pub most_tokens : ℕ
+most_tokens = 1000
+
+abbrev pub is_long : List PatToken → Bool
+is_long tokens = nat_lt most_tokens (length tokens)
+
+-- The rule with these tokens and this formula counts as one that needs the word. A longer rule counts as one that needs none.
+abbrev pub needs_word : List PatToken → Plain → List ℕ → Bool
+needs_word tokens f w = not (is_long tokens) && needs w f
+
 -- ---- items
 
 -- the piece with this number is the word
@@ -67,24 +79,31 @@ module _ (file : FileItems) (span : ItemSpan) where
   abbrev pub holds_needed : Plain → Bool
   holds_needed f = list_all (λ w. not (needs w f) || holds_word w) (words_in f)
 
+  -- it holds each word that the rule needs, of which a long one counts as needing none
+  abbrev pub holds_words : Rule → Bool
+  holds_words rule = is_long rule.tokens || holds_needed (formula_of rule)
+
   -- it holds each word that one of these rules needs
   abbrev pub may_match : List Rule → Bool
-  may_match rules = list_any (λ rule. holds_needed (formula_of rule)) rules
+  may_match rules = list_any holds_words rules
 
 -- ---- notes
 
--- notes on those of these items of a file that a reading skipped and that hold all words of one of these rules; they are
--- numbered from here
-abbrev pub needed_from : List Rule → (loaded reading : ℕ) → FileItems → (at : ℕ) → List Item → List SkipNote
-needed_from rules loaded reading file at [] = []
-needed_from rules loaded reading file at (Parsed t ∷ items) = needed_from rules loaded reading file (suc at) items
-needed_from rules loaded reading file at (Skipped span why ∷ items) = cond (may_match file span rules)
-    (record { reading = reading; item = at; why = why; token = item_token loaded file span } ∷ needed_from rules loaded reading file (suc at) items)
-    (needed_from rules loaded reading file (suc at) items)
+-- the item is skipped and passes the test
+abbrev pub is_where : (ItemSpan → Bool) → Item → Bool
+is_where test (Parsed t) = false
+is_where test (Skipped span why) = test span
 
--- the notes on a reading in which these rules ran
+-- notes on those of these items of a file that a reading skipped and that pass the test; they are numbered from here
+abbrev pub notes_where : (ItemSpan → Bool) → (loaded reading : ℕ) → FileItems → (at : ℕ) → List Item → List SkipNote
+notes_where test loaded reading file at [] = []
+notes_where test loaded reading file at (item ∷ items) = cond (is_where test item)
+    (notes_from loaded reading file at (item ∷ []) ++ notes_where test loaded reading file (suc at) items)
+    (notes_where test loaded reading file (suc at) items)
+
+-- the notes on a reading in which these rules ran: on the items that hold all words of one of them
 abbrev pub needed_on : List Rule → (loaded reading : ℕ) → FileItems → List SkipNote
-needed_on rules loaded reading file = needed_from rules loaded reading file 0 file.items
+needed_on rules loaded reading file = notes_where (λ span. may_match file span rules) loaded reading file 0 file.items
 
 -- ---- so far
 

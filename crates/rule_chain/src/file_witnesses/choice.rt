@@ -8,29 +8,16 @@ ghost use Rattle.c_file.specs.ItemGraphs.Trees.{item_tree};
 ghost use Rattle.rule_chain.specs.FileWitnesses.Chosen.{FindsNothing, AreChosen, AreReady};
 ghost use Rattle.rule_chain.specs.FileWitnesses.Lacking.{AreNeeded, misses};
 
+use crate::rule_words::words_of;
 use c_file::Graphs;
 use c_terms::{NoMemory, Text};
-use ctl_fixpoint::{may_hold, needed_words};
+use ctl_fixpoint::may_hold;
 use ctl_formula::Formula;
 use smpl_patch::{Rule, ask_types};
-use sqlite_items::Items;
 use std::alloc::Global;
-
-/// The most tokens of a rule whose words are looked for: the search costs the number of words times the size of the formula.
-const MOST_TOKENS: usize = 1_000;
 
 /// The most items: a witness carries the number of its item in 32 bits.
 const MOST_ITEMS: usize = 4_294_967_296;
-
-/// Returns words that the formula needs: all of them, or none if the rule has too many tokens.
-fn words_of(alloc: Global, f: &Formula) -> Result<Items<Text>, NoMemory>
-    ensures { IfOk result (λ words. AreNeeded words f.now) }
-{
-    if f.tokens().len() > MOST_TOKENS {
-        return Ok(Items::new(alloc));
-    }
-    needed_words(alloc, f)
-}
 
 /// Whether the item has a tree that lacks one of the words. Makes no graph.
 fn lacks_word(words: &[Text], graphs: &Graphs<'_>, i: usize) -> bool

@@ -8,7 +8,6 @@ use Rattle.smpl_notes.specs.declared.note.Note.{Note}
 use Rattle.smpl_notes.specs.declared.note.Note.TheVariants.{NoSign, InRule}
 use Rattle.smpl_notes.specs.Sentences.{sentence}
 use Rattle.smpl_notes.specs.Told.{is_told, is_told_always}
-use Rattle.run_words.specs.declared.order.Mode.{Mode}
 use Rattle.run_words.specs.Orders.{Target, OnFiles, OnText}
 use Rattle.run_files.specs.declared.run_lines.notes.NoteLines.{NoteLines}
 use Rattle.run_files.specs.RunLines.Further.{further}

@@ -1,5 +1,5 @@
 -- How far a run has come, and what it does next.
-use Rattle.std.specs.Prelude.{ℕ, ◌≡◌, ◌⊎◌, Bool, false, ◌||◌, cond, List, [], ◌∷◌, ◌++◌, map, Option, Some, None, is_some, codes}
+use Rattle.std.specs.Prelude.{ℕ, ◌≡◌, ◌⊎◌, false, ◌||◌, cond, List, [], ◌∷◌, ◌++◌, map, Option, Some, None, is_some, codes}
 use Rattle.outer_io.specs.Files.{Files}
 use Rattle.run_acts.specs.Acts.{Act, Load, Print, Report}
 use Rattle.run_acts.specs.Lines.{cannot_read}

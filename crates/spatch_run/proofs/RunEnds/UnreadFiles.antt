@@ -6,8 +6,11 @@ use Rattle.c_places.specs.declared.places.TextPlaces.{TextPlaces}
 use Rattle.run_choices.specs.declared.unread.Unread.{Unread}
 use Rattle.run_choices.specs.declared.unread.Unread.TheVariants as unread
 use Rattle.rule_chain.specs.declared.rule_run.state.SkipNote.{SkipNote}
-use Rattle.rule_chain.specs.RuleRun.States.{told_notes}
-use Rattle.rule_chain.specs.Chain.{Outcome, Done, Refused}
+use Rattle.rule_chain.specs.RuleRun.States.{Chained, told_notes}
+use Rattle.rule_chain.specs.Chain.{Outcome, Done, Refused, Chain}
+use Rattle.rule_chain.specs.Told.{AreSome}
+use Rattle.rule_chain.specs.Told.AreSome.{nothing, with_note, without_note}
+use Rattle.rule_chain.proofs.ToldLemmas.{chain_some}
 use Rattle.rule_chain.specs.Passed.{EndsBy}
 use Rattle.run_acts.specs.Acts.{Act, Load, Report, Observed, after_act, after}
 use Rattle.run_acts.specs.Loaded.{Found}
@@ -21,7 +24,7 @@ use Rattle.run_files.specs.Treatment.{skipped_lines, file_limit}
 use Rattle.run_files.specs.RunStages.Stages.{Course, after_file, told}
 use Rattle.run_files.specs.RunStages.Reasons.{FilesEnd, FilesDo}
 use Rattle.spatch_run.specs.RunEnds.Unread.{AreButLines}
-use Rattle.spatch_run.specs.RunEnds.Unread.AreButLines.{none, both, first, second}
+use Rattle.spatch_run.specs.RunEnds.Unread.AreButLines.{none, both, left_out}
 use Rattle.spatch_run.proofs.RunLaws.OnePath.{after_act-files}
 use Rattle.spatch_run.proofs.RunEnds.FileLemmas.{chain_ends}
 
@@ -38,10 +41,8 @@ but-as acts others acts' others' e f but =
 pub but-append : (acts others more more' : List Act) → AreButLines acts others → AreButLines more more' → AreButLines (acts ++ more) (others ++ more')
 but-append _ _ more more' none rest = rest
 but-append _ _ more more' (both act acts others but) rest = both act (acts ++ more) (others ++ more') (but-append acts others more more' but rest)
-but-append _ _ more more' (first name place note acts others but) rest =
-    first name place note (acts ++ more) (others ++ more') (but-append acts others more more' but rest)
-but-append _ _ more more' (second name place note acts others but) rest =
-    second name place note (acts ++ more) (others ++ more') (but-append acts others more more' but rest)
+but-append _ _ more more' (left_out name place note acts others but) rest =
+    left_out name place note (acts ++ more) (others ++ more') (but-append acts others more more' but rest)
 
 -- they store the same files
 after-but : (acts others : List Act) → AreButLines acts others → (old other : Observed) → other.files ≡ old.files
@@ -49,45 +50,49 @@ after-but : (acts others : List Act) → AreButLines acts others → (old other 
 after-but _ _ none old other same = same
 after-but _ _ (both act acts others but) old other same =
     after-but acts others but (after_act act old) (after_act act other) (after_act-files act old other same)
-after-but _ _ (first name place note acts others but) old other same = after-but acts others but (after_act (Report _) old) other same
-after-but _ _ (second name place note acts others but) old other same = after-but acts others but old (after_act (Report _) other) same
+after-but _ _ (left_out name place note acts others but) old other same = after-but acts others but (after_act (Report _) old) other same
 
 -- ---- texts
 
 module _ (name text : List ℕ) (places : TextPlaces) where
-  -- any lines of such items
-  any-lines : (notes others : List SkipNote) → AreButLines (map (note_act name text places) notes) (map (note_act name text places) others)
-  any-lines [] [] = none
-  any-lines [] (note ∷ others) = second name (note_place text places note) note [] _ (any-lines [] others)
-  any-lines (note ∷ notes) others = first name (note_place text places note) note _ _ (any-lines notes others)
+  -- the lines of some notes
+  some-lines : (notes others : List SkipNote) → AreSome others notes
+      → AreButLines (map (note_act name text places) notes) (map (note_act name text places) others)
+  some-lines _ _ nothing = none
+  some-lines _ _ (with_note note others notes are) = both (note_act name text places note) _ _ (some-lines notes others are)
+  some-lines _ _ (without_note note others notes are) = left_out name (note_place text places note) note _ _ (some-lines notes others are)
 
 -- the acts differ only in lines, and the tally is the same
 pub record TellsOther (one other : Treated) : Type 0 where
   pub tally : one.tally ≡ other.tally
   pub acts : AreButLines one.acts other.acts
 
+-- of what ends so, the notes that are told by one choice are some of those that are told by another
+abbrev TellsSome : Unread → Unread → Outcome → Type 0
+TellsSome told choice end = (s : Chained) → end ≡ Done s → AreSome (told_notes told s) (told_notes choice s)
+
 module _ (told : Unread) (patch : Patch) (name bytes : List ℕ) (places : TextPlaces) where
-  treated-other : (mode : Mode) (end : Outcome)
+  treated-other : (mode : Mode) (end : Outcome) → TellsSome told mode.unread end
       → TellsOther (treated_by mode patch name bytes places end) (treated_by (mode_telling told mode) patch name bytes places end)
-  treated-other mode (Refused fault) = record { tally = refl; acts = but-refl _ }
-  treated-other mode (Done s) =
+  treated-other mode (Refused fault) part = record { tally = refl; acts = but-refl _ }
+  treated-other mode (Done s) part =
       let texts = shown mode patch name bytes s in
       let kept = stored_after mode name bytes s in
       let one = skipped_lines mode.unread name bytes places s in
       let two = skipped_lines told name bytes places s in record {
         tally = refl;
         acts = but-append (one ++ texts) (two ++ texts) kept kept (but-append one two texts texts
-            (any-lines name bytes places (told_notes mode.unread s) (told_notes told s)) (but-refl texts)) (but-refl kept);
+            (some-lines name bytes places (told_notes mode.unread s) (told_notes told s) (part s refl)) (but-refl texts)) (but-refl kept);
       }
 
-  summed-other : (choice : Unread) (end : Outcome)
+  summed-other : (choice : Unread) (end : Outcome) → TellsSome told choice end
       → TellsOther (summed_by patch choice name bytes places end) (summed_by patch told name bytes places end)
-  summed-other choice (Refused fault) = record { tally = refl; acts = but-refl _ }
-  summed-other choice (Done s) =
+  summed-other choice (Refused fault) part = record { tally = refl; acts = but-refl _ }
+  summed-other choice (Done s) part =
       let text = printing (summary patch.rules s.found (length s.page.bytes)) in record {
         tally = refl;
         acts = but-append (skipped_lines choice name bytes places s) (skipped_lines told name bytes places s) text text
-            (any-lines name bytes places (told_notes choice s) (told_notes told s)) (but-refl text);
+            (some-lines name bytes places (told_notes choice s) (told_notes told s) (part s refl)) (but-refl text);
       }
 
 as-treated : (one two other : Treated) → one ≡ two → TellsOther two other → TellsOther one other
@@ -99,6 +104,14 @@ module _ (told : Unread) (patch : Patch) (defined : List (List ℕ)) where
       → EndsBy told patch.rules defined bytes end
   ends-other choice bytes end all ends =
       chain_ends told patch.rules defined bytes end (subst (λ (u : Unread). EndsBy u patch.rules defined bytes end) all ends)
+
+  -- and its notes are some of all
+  tells-some : (choice : Unread) (bytes : List ℕ) (end : Outcome) → choice ≡ unread.All → EndsBy choice patch.rules defined bytes end
+      → TellsSome told choice end
+  tells-some choice bytes end all ends s is =
+      subst (λ (u : Unread). AreSome (told_notes told s) (told_notes u s)) (sym all)
+      (chain_some told patch.rules defined bytes s (subst (λ (e : Outcome). Chain patch.rules defined bytes e) is
+      (subst (λ (u : Unread). EndsBy u patch.rules defined bytes end) all ends)))
 
   file-other : (holds : Option Files) (mode : Mode) (name bytes : List ℕ) (treated : Treated) → mode.unread ≡ unread.All
       → IsFileTreatmentOf holds mode patch defined name bytes treated
@@ -113,7 +126,8 @@ module _ (told : Unread) (patch : Patch) (defined : List (List ℕ)) where
         other,
         (
           inl (inr (short.0, (end, (ends-other mode.unread bytes end all short.1.1.0, (found.0, (found.1.0, refl)))))),
-          as-treated treated _ other found.1.1 (treated-other told patch name bytes places mode end),
+          as-treated treated _ other found.1.1 (treated-other told patch name bytes places mode end
+              (tells-some mode.unread bytes end all short.1.1.0)),
         ),
       )
   file-other holds mode name bytes treated all (inr special) =
@@ -130,7 +144,8 @@ module _ (told : Unread) (patch : Patch) (defined : List (List ℕ)) where
         other,
         (
           (sums.0, (end, (ends-other choice bytes end all sums.1.1.0, (found.0, (found.1.0, refl))))),
-          as-treated treated _ other found.1.1 (summed-other told patch name bytes places choice end),
+          as-treated treated _ other found.1.1 (summed-other told patch name bytes places choice end
+              (tells-some choice bytes end all sums.1.1.0)),
         ),
       )
 

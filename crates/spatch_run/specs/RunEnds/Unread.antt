@@ -9,16 +9,12 @@ use Rattle.run_words.specs.Orders.{Order, order_of}
 use Rattle.run_words.specs.UnreadLaws.Choices.{order_telling}
 use Rattle.run_files.specs.RunLines.Files.{skipped_line}
 
--- The second acts are the first, except for lines of items that can't be read.
+-- The second acts are the first, of which some lines of items that can't be read are left out.
 pub data AreButLines : List Act → List Act → Type 0 where
   none : AreButLines [] []
   both : (act : Act) (acts others : List Act) → AreButLines acts others → AreButLines (act ∷ acts) (act ∷ others)
-  -- a line of such an item is among the first alone
-  first : (name : List ℕ) (place : Option Place) (note : SkipNote) (acts others : List Act) → AreButLines acts others
+  left_out : (name : List ℕ) (place : Option Place) (note : SkipNote) (acts others : List Act) → AreButLines acts others
       → AreButLines (Report (skipped_line name place note) ∷ acts) others
-  -- and one among the second alone
-  second : (name : List ℕ) (place : Option Place) (note : SkipNote) (acts others : List Act) → AreButLines acts others
-      → AreButLines acts (Report (skipped_line name place note) ∷ others)
 
 -- Two lists of words ask for the same, but the first tell of all items that can't be read.
 pub record SameButTold (words others : List (List ℕ)) : Type 0 where

@@ -10,11 +10,11 @@ ghost use Rattle.spatch_run.specs.RunEnds.Unread.{AreButLines, SameButTold};
 use crate::run_laws::acts_have_a_reason;
 use run_words::unread_changes_targets;
 
-/// Words with `--unread` have the acts and the status that they have without, but for lines of items that can't be read. This
-/// holds whatever the shelf reveals.
+/// Words with `--unread` have the acts and the status that they have without, but some lines of items that can't be read are left
+/// out. This holds whatever the shelf reveals.
 ///
-/// - `acts`: a list of acts of words that tell of all such items is, but for these lines, a list of acts of words that ask for the
-///   same and tell of other ones, with the same status.
+/// - `acts`: a list of acts of words that tell of all such items is, with some of these lines left out, a list of acts of words
+///   that ask for the same and tell of others, with the same status.
 /// - `words`: words that are a command, name a patch and don't give `--unread` or give `all`, and words that differ from them only
 ///   in `--unread`, ask for the same.
 ///

@@ -10,7 +10,7 @@ loop-rule-preserved c =
     let within : i < length all = omega (arith, ap length c.as_slice-rule-items.ensures) in
     let at : one ≡ get_or all i one = c.rule-item.is ∙ ap (λ ps. get_or ps i one) c.as_slice-rule-items.ensures in
     subst (λ done. Completes all (i + 1) done) (sym c.in_ok-push.ensures.items)
-    (one_more all i one within at c.loop-rule.words.items c.in_ok-needed_words.field-0 c.in_ok-needed_words.ensures.words c.loop-rule.invariant)
+    (one_more all i one within at c.loop-rule.words.items c.in_ok-words_of.field-0 c.in_ok-words_of.ensures.exact c.loop-rule.invariant)
 
 pub returns : goal.returns
 returns c =

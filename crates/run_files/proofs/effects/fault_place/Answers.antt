@@ -1,4 +1,4 @@
-use Rattle.std.proofs.Common.{◌≡◌, ◌∙◌, ap}
+use Rattle.std.proofs.Common.{◌∙◌, ap}
 use Rattle.c_places.specs.declared.places.TextPlaces.{TextPlaces}
 use Rattle.run_files.specs.RunLines.Further.{placed}
 use Rattle.run_files.specs.RunLines.Files.{fault_start}

@@ -1,4 +1,4 @@
-use Rattle.std.proofs.Common.{◌≡◌, ◌∙◌, ap, sym, Bool, cond}
+use Rattle.std.proofs.Common.{◌∙◌, ap, sym, Bool, cond}
 use Rattle.std.proofs.lemmas.Result.{IfOk-weaker}
 use Rattle.run_files.specs.Treatment.{no_places}
 use Rattle.run_files.proofs.effects.find_places.Goals as goal

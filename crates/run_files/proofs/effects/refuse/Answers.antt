@@ -1,8 +1,4 @@
-use Rattle.std.proofs.Common.{ap, sym}
-use Rattle.std.specs.Prelude.{Option}
-use Rattle.std.proofs.lemmas.Result.{err_from_is_err_and, IfErr-weaker, IfOk-weaker, on_ok_weaker}
-use Rattle.run_acts.specs.Acts.{Report}
-use Rattle.text_places.specs.declared.place.Place.{Place}
+use Rattle.std.proofs.lemmas.Result.{err_from_is_err_and, IfErr-weaker, on_ok_weaker}
 use Rattle.run_files.specs.RunLines.Files.{refused_line, fault_place}
 use Rattle.run_files.specs.Treatment.{told_places}
 use Rattle.run_files.proofs.ActLemmas.{Stops-unfed}

@@ -1,6 +1,5 @@
 use Rattle.std.proofs.Common.{◌≡◌, ◌∙◌, ◌++◌, codes}
-use Rattle.std.proofs.lemmas.Result.{err_from_is_err_and, IfErr-weaker, on_ok_weaker}
-use Rattle.outer_io.specs.Files.{grown}
+use Rattle.std.proofs.lemmas.Result.{err_from_is_err_and, IfErr-weaker}
 use Rattle.run_acts.specs.Acts.{Print}
 use Rattle.run_files.specs.RunLines.Names.{quoted_name}
 use Rattle.run_files.proofs.ActLemmas.{Stops-one, Stops-unfed}

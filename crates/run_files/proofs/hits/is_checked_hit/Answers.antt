@@ -2,7 +2,6 @@ use Rattle.std.proofs.Common.{◌≡◌, ◌∙◌, ap, true, false, arith}
 use Rattle.std.proofs.lemmas.Grind.{common_steps}
 use Rattle.std.proofs.lemmas.Result.{IfOk-weaker}
 use Rattle.c_terms.specs.Same.{same_bytes}
-use Rattle.smpl_patch.specs.declared.witness.RuleWitness.{RuleWitness}
 use Rattle.std.specs.List.{list_any}
 use Rattle.run_files.specs.Treatment.{is_starred}
 use Rattle.run_files.proofs.HitLemmas.{hit_unasked, hit_changed, hit_found}

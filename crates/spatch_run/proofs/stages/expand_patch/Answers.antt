@@ -1,4 +1,4 @@
-use Rattle.std.proofs.Common.{inl, inr, map, refl}
+use Rattle.std.proofs.Common.{inl, inr, refl}
 use Rattle.run_acts.proofs.BreaksLemmas.{NoneFell-refl}
 use Rattle.run_words.specs.Shown.{shown_target}
 use Rattle.run_files.specs.RunLines.Patches.{forms_line}

@@ -1,4 +1,4 @@
-use Rattle.std.proofs.Common.{[], map, refl}
+use Rattle.std.proofs.Common.{[], refl}
 use Rattle.run_words.specs.Shown.{shown_target}
 use Rattle.run_files.specs.RunStages.Stages.{Doing, ReadIsos}
 use Rattle.run_files.specs.RunStages.Ends.LeadsBy.{from}

@@ -1,4 +1,4 @@
-use Rattle.std.proofs.Common.{◌≡◌, Some, None, [], map, refl, sym, arith}
+use Rattle.std.proofs.Common.{◌≡◌, Some, None, [], refl, sym, arith}
 use Rattle.std.proofs.lemmas.Result.{err_from_is_err_and}
 use Rattle.run_acts.specs.Breaks.{NoneFell, counts}
 use Rattle.run_acts.specs.Lines.{cannot_read}

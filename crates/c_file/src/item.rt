@@ -31,7 +31,7 @@ pub(crate) fn read_item(
 }
 
 /// Adds the names that are known after an item.
-pub(crate) fn add_names(alloc: Global, names: &mut Names, item: &Item) -> Result<(), NoMemory>
+pub fn add_names(alloc: Global, names: &mut Names, item: &Item) -> Result<(), NoMemory>
     ensures { OnOk result (names.new ≡ names_after names.old item.now) }
 {
     match item {

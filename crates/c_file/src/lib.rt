@@ -25,5 +25,6 @@ mod token;
 mod typedefs;
 
 pub use file::{CFile, read_file};
+pub use item::add_names;
 pub use item_graphs::Graphs;
 pub use laws::read_once;

@@ -1,5 +1,6 @@
 -- Lemmas of edit_conflict.
 pub mod Distinct
+pub mod Numbers
 pub mod Members
 pub mod Ordered
 pub mod Meets

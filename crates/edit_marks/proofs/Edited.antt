@@ -16,11 +16,11 @@ use Rattle.edit_marks.specs.Plain.{AreSpaces, AreSoundLines, IsJoint}
 use Rattle.edit_marks.specs.Edits.{block_of, anchor_of, insert_if, inserts_at, HaveSoundBlocks, HaveBlankIndents, ArePlainInserts, EditOf}
 use Rattle.edit_marks.proofs.Sound.{insert_plain}
 
-plain_both : (xs ys : List Insert) → ArePlainInserts xs → ArePlainInserts ys → ArePlainInserts (xs ++ ys)
+pub plain_both : (xs ys : List Insert) → ArePlainInserts xs → ArePlainInserts ys → ArePlainInserts (xs ++ ys)
 plain_both [] ys h k = k
 plain_both (x ∷ xs) ys h k = (h.0, plain_both xs ys h.1 k)
 
-joint_of : (returns : Bool) (indent : List ℕ) → AreSpaces indent → IsJoint (line_end returns ++ indent)
+pub joint_of : (returns : Bool) (indent : List ℕ) → AreSpaces indent → IsJoint (line_end returns ++ indent)
 joint_of true indent h = h
 joint_of false indent h = h
 

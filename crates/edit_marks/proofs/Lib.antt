@@ -9,3 +9,4 @@ pub mod TokenLemmas
 pub mod Examples
 pub mod EditConflict
 pub mod EditWalk
+pub mod Tidied

@@ -26,7 +26,7 @@ no_lead : (gaps : List (List ℕ)) → without_lead 0 gaps ≡ gaps
 no_lead [] = refl
 no_lead (gap ∷ gaps) = refl
 
-next : {X : Type 0} (xs : List X) (i : ℕ) (x : X) → i < length xs → x ≡ get_or xs i x → drop i xs ≡ x ∷ drop (i + 1) xs
+pub next : {X : Type 0} (xs : List X) (i : ℕ) (x : X) → i < length xs → x ≡ get_or xs i x → drop i xs ≡ x ∷ drop (i + 1) xs
 next xs i x less is =
     let one : suc i ≡ i + 1 = omega arith in
     drop-cons xs i x less ∙ (λ j. is_there j ∷ drop (one j) xs)

@@ -27,7 +27,7 @@ use Rattle.edit_marks.specs.Edits.{inserts_at, EditOf}
 
 -- ---- ascending numbers
 
-abbrev Rising : List ℕ → Type 0
+abbrev pub Rising : List ℕ → Type 0
 Rising [] = Unit {0}
 Rising (x ∷ xs) = All (λ y. x < y) xs × Rising xs
 
@@ -36,7 +36,7 @@ tail_rises x xs h = λ k less.
     let same : suc k + 1 ≡ suc (k + 1) = omega arith in
     subst (λ (n : ℕ). slice_index xs k < slice_index (x ∷ xs) n) same (h (suc k) (omega (arith, less)))
 
-rises : (xs : List ℕ) → IsStrictlyIncreasing xs → Rising xs
+pub rises : (xs : List ℕ) → IsStrictlyIncreasing xs → Rising xs
 rises [] h = tt
 rises (x ∷ []) h = (All-nil (λ y. x < y), tt)
 rises (x ∷ y ∷ ys) h =
@@ -79,7 +79,7 @@ tail_among x xs y ys same r f = λ n has.
       | inr later ↦ later
     ]
 
-one_rising : (xs ys : List ℕ) → Rising xs → Rising ys → AreAmong xs ys → AreAmong ys xs → xs ≡ ys
+pub one_rising : (xs ys : List ℕ) → Rising xs → Rising ys → AreAmong xs ys → AreAmong ys xs → xs ≡ ys
 one_rising [] [] r s f g = refl
 one_rising [] (y ∷ ys) r s f g = absurd (none_in y (g y (has_head y ys)))
 one_rising (x ∷ xs) [] r s f g = absurd (none_in x (f x (has_head x xs)))
@@ -200,7 +200,7 @@ one_order (x ∷ xs) (y ∷ ys) r q same =
     omega (arith, same s, count_more s x xs, count_more s y ys, alike)) in
     λ i. head i ∷ rest i
 
-one_sorting : (all xs ys : List PlusSpot) → IsPermutation all xs → IsPermutation all ys → AreRising xs → AreRising ys → xs ≡ ys
+pub one_sorting : (all xs ys : List PlusSpot) → IsPermutation all xs → IsPermutation all ys → AreRising xs → AreRising ys → xs ≡ ys
 one_sorting all xs ys p q r s =
     one_order xs ys r s (λ t. let f = λ (u : PlusSpot). one_if (spot_order t u) in sum_by-IsPermutation f all xs p ∙ sym (sum_by-IsPermutation f all ys q))
 

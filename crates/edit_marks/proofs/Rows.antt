@@ -87,13 +87,13 @@ known Dots e = absurd (false≢true e)
 known Pat e = absurd (false≢true e)
 
 -- what a word piece is
-record Spelled (p : TextPiece) : Type 0 where
-  k : Kind
-  is : kind_of_piece p.kind ≡ Some k
-  plain : IsTrue (is_plain k)
-  of : kind_of p.text ≡ Some k
+pub record Spelled (p : TextPiece) : Type 0 where
+  pub k : Kind
+  pub is : kind_of_piece p.kind ≡ Some k
+  pub plain : IsTrue (is_plain k)
+  pub of : kind_of p.text ≡ Some k
 
-spelled : (left : Option (List ℕ)) (p : TextPiece) → WordPiece left p → Spelled p
+pub spelled : (left : Option (List ℕ)) (p : TextPiece) → WordPiece left p → Spelled p
 spelled left p w =
     let n = known w.token w.c_token.plain in
     record {

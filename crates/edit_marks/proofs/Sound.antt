@@ -35,21 +35,21 @@ use Rattle.edit_marks.specs.Inserts.{insert_of}
 use Rattle.edit_marks.specs.Plain.{IsCToken, AreCTokens, IsCTerm, IsSoundToken, AreSpaces, AreSoundTokens, AreSoundGaps, AreSoundLines, IsJoint}
 use Rattle.edit_marks.proofs.Rows.{Row, after, row_append, after-append, row_plain, spaces_blank, both_second}
 
-abbrev Left : Type 0
+abbrev pub Left : Type 0
 Left = Option (List ℕ)
 
 -- a text that is a row
-record Rowed (left : Left) (text : List ℕ) (right : Left) : Type 0 where
-  pieces : List TextPiece
-  is : text_of pieces ≡ text
-  row : Row left pieces
-  ends : after left pieces ≡ right
+pub record Rowed (left : Left) (text : List ℕ) (right : Left) : Type 0 where
+  pub pieces : List TextPiece
+  pub is : text_of pieces ≡ text
+  pub row : Row left pieces
+  pub ends : after left pieces ≡ right
 
 text_both : (xs ys : List TextPiece) → text_of (xs ++ ys) ≡ text_of xs ++ text_of ys
 text_both [] ys = refl
 text_both (x ∷ xs) ys = ap (λ (l : List ℕ). x.text ++ l) (text_both xs ys) ∙ sym (append_assoc x.text (text_of xs) (text_of ys))
 
-both_rows : (left mid right : Left) (a b : List ℕ) → Rowed left a mid → Rowed mid b right → Rowed left (a ++ b) right
+pub both_rows : (left mid right : Left) (a b : List ℕ) → Rowed left a mid → Rowed mid b right → Rowed left (a ++ b) right
 both_rows left mid right a b h k = record {
   pieces = h.pieces ++ k.pieces;
   is = text_both h.pieces k.pieces ∙ (λ i. h.is i ++ k.is i);
@@ -57,19 +57,19 @@ both_rows left mid right a b h k = record {
   ends = after-append left h.pieces k.pieces ∙ ap (λ (o : Left). after o k.pieces) h.ends ∙ k.ends;
 }
 
-nothing : (left : Left) → Rowed left [] left
+pub nothing : (left : Left) → Rowed left [] left
 nothing left = record { pieces = []; is = refl; row = tt; ends = refl }
 
-gap_row : (left : Left) (gap : List ℕ) → AreSpaces gap → Rowed left gap (left_at left gap)
+pub gap_row : (left : Left) (gap : List ℕ) → AreSpaces gap → Rowed left gap (left_at left gap)
 gap_row left [] e = nothing left
 gap_row left (c ∷ cs) e =
     let p : TextPiece = record { kind = Blank; text = c ∷ cs } in
     record { pieces = p ∷ []; is = append-nil (c ∷ cs); row = (inl (record { blank = refl; of = spaces_blank c cs e }), tt); ends = refl }
 
-space_row : (left : Left) → Rowed left (32 ∷ []) None
+pub space_row : (left : Left) → Rowed left (32 ∷ []) None
 space_row left = gap_row left (32 ∷ []) refl
 
-token_row : (left : Left) (token : TokenKind) (text : List ℕ) → IsCToken token text → is_together left (Some text) ≡ false → Rowed left text (Some text)
+pub token_row : (left : Left) (token : TokenKind) (text : List ℕ) → IsCToken token text → is_together left (Some text) ≡ false → Rowed left text (Some text)
 token_row left token text c e =
     let p : TextPiece = record { kind = Word token 0; text = text } in
     record { pieces = p ∷ []; is = append-nil text; row = (inr (record { token = token; word = refl; c_token = c; apart = e }), tt); ends = refl }
@@ -141,9 +141,9 @@ some_last x (y ∷ ys) left e = some_last y ys (Some x.1) e
 
 -- a text that may come after a token with which it doesn't run together
 
-record Whole (c : Chunk) : Type 0 where
-  rows : (left : Left) → is_together left c.first ≡ false → Rowed left c.text (left_after left c.last)
-  none : c.last ≡ None → c.first ≡ None
+pub record Whole (c : Chunk) : Type 0 where
+  pub rows : (left : Left) → is_together left c.first ≡ false → Rowed left c.text (left_after left c.last)
+  pub none : c.last ≡ None → c.first ≡ None
 
 not_parted : (t u : Shown) → is_parted t u ≡ false → runs_together t.text u.text ≡ false
 not_parted t u e =
@@ -210,7 +210,7 @@ some_none l e = absurd cc
 text_whole : (token : TokenKind) (text : List ℕ) → IsCToken token text → Whole (record { text = text; first = Some text; last = Some text })
 text_whole token text c = record { rows = λ left e. token_row left token text c e; none = λ e. absurd (some_none text e) }
 
-whole : (decls : List VarDecl) (env : Environment) (t : Token) → IsSoundToken (is_meta t.kind) decls env t → Whole (chunk_of decls env t)
+pub whole : (decls : List VarDecl) (env : Environment) (t : Token) → IsSoundToken (is_meta t.kind) decls env t → Whole (chunk_of decls env t)
 whole decls env t h = elim (is_meta t.kind) as (λ (b : Bool). IsSoundToken b decls env t
     → Whole (if b then term_chunk (term decls env t.text) else record { text = t.text; first = Some t.text; last = Some t.text })) [
       | true ↦ λ h. term_whole (term decls env t.text) h
@@ -236,18 +236,18 @@ between left c w = elim (is_together left c.first) as (λ (b : Bool). is_togethe
       | false ↦ λ e. w.rows left e
     ] refl
 
-chunk_row : (left : Left) (gap : List ℕ) (c : Chunk) → AreSpaces gap → Whole c → Rowed left (chunk_text left gap c) (left_after (left_at left gap) c.last)
+pub chunk_row : (left : Left) (gap : List ℕ) (c : Chunk) → AreSpaces gap → Whole c → Rowed left (chunk_text left gap c) (left_after (left_at left gap) c.last)
 chunk_row left gap c e w = both_rows left (left_at left gap) (left_after (left_at left gap) c.last) gap
     (blank_between (left_at left gap) c.first ++ c.text) (gap_row left gap e) (between (left_at left gap) c w)
 
-record Rows (left : Left) (text : List ℕ) : Type 0 where
-  right : Left
-  rowed : Rowed left text right
+pub record Rows (left : Left) (text : List ℕ) : Type 0 where
+  pub right : Left
+  pub rowed : Rowed left text right
 
-then_rows : (left mid : Left) (a b : List ℕ) → Rowed left a mid → Rows mid b → Rows left (a ++ b)
+pub then_rows : (left mid : Left) (a b : List ℕ) → Rowed left a mid → Rows mid b → Rows left (a ++ b)
 then_rows left mid a b h k = record { right = k.right; rowed = both_rows left mid k.right a b h k.rowed }
 
-no_rows : (left : Left) → Rows left []
+pub no_rows : (left : Left) → Rows left []
 no_rows left = record { right = left; rowed = nothing left }
 
 tokens_rows : (decls : List VarDecl) (env : Environment) (left : Left) (gaps : List (List ℕ)) (tokens : List Token)
@@ -260,7 +260,7 @@ tokens_rows decls env left (gap ∷ gaps) (t ∷ tokens) g h =
     then_rows left next (chunk_text left gap c) (tokens_text decls env next gaps tokens)
     (chunk_row left gap c g.0 (whole decls env t h.0)) (tokens_rows decls env next gaps tokens g.1 h.1)
 
-drop_spaces : (m : ℕ) (gap : List ℕ) → AreSpaces gap → AreSpaces (drop m gap)
+pub drop_spaces : (m : ℕ) (gap : List ℕ) → AreSpaces gap → AreSpaces (drop m gap)
 drop_spaces zero gap e = e
 drop_spaces (suc m) [] e = refl
 drop_spaces (suc m) (c ∷ cs) e = drop_spaces m cs (both_second (is_space c) (list_all is_space cs) e)
@@ -274,7 +274,7 @@ line_rows : (decls : List VarDecl) (env : Environment) (m : ℕ) (line : PlusLin
     → AreSoundTokens decls env line.tokens → Rows None (line_text decls env m line)
 line_rows decls env m line g h = tokens_rows decls env None (without_lead m line.gaps) line.tokens (sound_lead m line.gaps g) h
 
-joint_row : (left : Left) (joint : List ℕ) → IsJoint joint → Rowed left joint None
+pub joint_row : (left : Left) (joint : List ℕ) → IsJoint joint → Rowed left joint None
 joint_row left [] j = absurd j
 joint_row left (b ∷ bs) j = gap_row left (b ∷ bs) j
 
@@ -305,7 +305,7 @@ end_spaces : (joint : List ℕ) (ends : Bool) → IsJoint joint → AreSpaces (i
 end_spaces joint true j = joint_spaces joint j
 end_spaces joint false j = refl
 
-insert_rows : (anchor : Anchor) (joint text : List ℕ) (ends : Bool) → IsJoint joint → Rows None text → Rows None (insert_of anchor joint text ends)
+pub insert_rows : (anchor : Anchor) (joint text : List ℕ) (ends : Bool) → IsJoint joint → Rows None text → Rows None (insert_of anchor joint text ends)
 insert_rows Removed joint text ends j h = h
 insert_rows AfterLine joint text ends j h = then_rows None None joint text (joint_row None joint j) h
 insert_rows AfterToken joint text ends j h = then_rows None None (32 ∷ []) text (space_row None) h

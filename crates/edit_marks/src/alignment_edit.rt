@@ -175,7 +175,7 @@ fn insert_of_block(
 }
 
 /// Returns a line end followed by these blanks. The line end is a newline, with a carriage return before it if `returns`.
-fn joint(alloc: Global, returns: bool, indent: &[u8]) -> Result<Vec<u8>, NoMemory>
+pub(crate) fn joint(alloc: Global, returns: bool, indent: &[u8]) -> Result<Vec<u8>, NoMemory>
     ensures { IfOk result (λ joint. joint.items ≡ line_end returns ++ indent.now) }
 {
     let mut joint = Vec::new(alloc);
@@ -187,7 +187,7 @@ fn joint(alloc: Global, returns: bool, indent: &[u8]) -> Result<Vec<u8>, NoMemor
     Ok(joint)
 }
 
-fn block_of<'a>(tokens: &'a [PatToken], spot: &PlusSpot) -> Option<&'a PlusBlock>
+pub(crate) fn block_of<'a>(tokens: &'a [PatToken], spot: &PlusSpot) -> Option<&'a PlusBlock>
     ensures { option_copied result ≡ block_of tokens.now spot.now }
 {
     let token = tokens.get(spot.pattern as usize)?;
@@ -198,13 +198,13 @@ fn block_of<'a>(tokens: &'a [PatToken], spot: &PlusSpot) -> Option<&'a PlusBlock
     }
 }
 
-fn side_of(after: bool) -> Side
+pub(crate) fn side_of(after: bool) -> Side
     ensures { result ≡ side_of after }
 {
     if after { Side::After } else { Side::Before }
 }
 
-fn anchor_of(is_removed: bool, after: bool, text: &[u8]) -> Anchor
+pub(crate) fn anchor_of(is_removed: bool, after: bool, text: &[u8]) -> Anchor
     ensures { result ≡ anchor_of is_removed after text.now }
 {
     if is_removed {

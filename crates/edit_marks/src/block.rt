@@ -34,7 +34,7 @@ pub fn put_block(
 }
 
 /// Returns the least number of blanks at the start of a line that has a token.
-fn least_lead(lines: &[PlusLine]) -> usize
+pub fn least_lead(lines: &[PlusLine]) -> usize
     ensures { result ≡ lead_of (least_lead None lines.now) }
 {
     let mut least = None;

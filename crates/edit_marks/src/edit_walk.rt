@@ -31,6 +31,12 @@ mod tokens;
 mod touch;
 mod walk;
 
+pub(crate) use context::WalkContext;
 pub use laws::witnesses_have_one_list;
 pub use nodes::ItemNodes;
+pub(crate) use numbers::Numbers;
+pub(crate) use patterns::patterns_of;
+pub(crate) use tokens::token_ids;
+pub(crate) use touch::pairs_at_touch;
 pub use walk::edits;
+pub(crate) use walk::{atoms_of, bound};

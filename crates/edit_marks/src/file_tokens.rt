@@ -75,11 +75,25 @@ impl<'a> FileTokens<'a> {
         Ok(FileTokens { bytes, places })
     }
 
+    /// Returns the number of tokens.
+    pub fn count(&self) -> usize
+        ensures value { result ≡ length self.now }
+    {
+        self.places.len()
+    }
+
     /// Returns the token with this number, counted from 0. Copies its text and the blanks.
     pub fn get(&self, alloc: Global, number: u32) -> Result<Option<FileToken>, NoMemory>
         ensures { IfOk result (λ token. token ≡ slice_get self.now number) }
     {
-        let Some(place) = self.places.get(number as usize) else {
+        self.get_at(alloc, number as usize)
+    }
+
+    /// Does the same for a number of any size.
+    pub(crate) fn get_at(&self, alloc: Global, number: usize) -> Result<Option<FileToken>, NoMemory>
+        ensures { IfOk result (λ token. token ≡ slice_get self.now number) }
+    {
+        let Some(place) = self.places.get(number) else {
             return Ok(None);
         };
         let text = &self.bytes[place.start as usize..place.end as usize];

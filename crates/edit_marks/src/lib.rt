@@ -22,6 +22,7 @@
 //! - `edit_conflict`: Edits of one version of a text, and whether two of them clash.
 //! - `edit_walk`: The edits of a rule: for each place that its witnesses touch, what the alignment there removes and
 //!   inserts.
+//! - `tidy`: The edits of a rule where the text is tidied.
 #![tactic(auto)]
 
 mod alignment_edit;
@@ -35,6 +36,7 @@ mod laws;
 mod line;
 mod removals;
 mod spot;
+mod tidy;
 mod values;
 
 pub use alignment_edit::edit_of;
@@ -46,3 +48,7 @@ pub use insert::{Anchor, ends_line, indent_at, insert_text};
 pub use laws::alignment_has_one_edit;
 pub use removals::{Aligned, removed_tokens};
 pub use spot::{PlusSpot, spots};
+pub use tidy::{
+    Body, BracketList, LeafRange, Outline, PatternStatement, TidiedEdits, tidied_edits,
+    witnesses_have_one_tidied_list,
+};

@@ -20,7 +20,12 @@ pub struct Chunk {
 }
 
 /// Returns the token's text, or the term of a metavariable written out.
-fn chunk_of(alloc: Global, decls: &[VarDecl], env: &Env, token: &Token) -> Result<Chunk, NoMemory>
+pub fn chunk_of(
+    alloc: Global,
+    decls: &[VarDecl],
+    env: &Env,
+    token: &Token,
+) -> Result<Chunk, NoMemory>
     ensures { IfOk result (λ chunk. chunk ≡ chunk_of decls.now env.now token.now) }
 {
     if !is_meta(token.kind) {
@@ -127,6 +132,25 @@ fn put_token(
 {
     let Edge { beside, last } = edge;
     let chunk = chunk_of(alloc, decls, env, token)?;
+    let beside = put_chunk(alloc, gap, &chunk, beside, out)?;
+    Ok(Edge {
+        beside,
+        last: left_after(last, chunk.last),
+    })
+}
+
+/// Adds what stands in place of a token, with the blanks before it, after a token that it may be beside. Returns the token that
+/// what comes next may be beside.
+pub fn put_chunk(
+    alloc: Global,
+    gap: &[u8],
+    chunk: &Chunk,
+    beside: Option<Text>,
+    out: &mut Vec<u8>,
+) -> Result<Option<Text>, NoMemory>
+    ensures text { OnOk result (out.new.items ≡ out.old.items ++ chunk_text beside gap.now chunk.now) }
+    ensures beside { IfOk result (λ after. after ≡ left_after (left_at beside gap.now) chunk.now.last) }
+{
     let beside = left_at(beside, gap);
     out.extend_from_slice(gap)?;
     if is_together(&beside, &chunk.first) {
@@ -134,13 +158,10 @@ fn put_token(
     }
     out.extend_from_slice(chunk.text.as_bytes())?;
     let own = copy_of(alloc, &chunk.last)?;
-    Ok(Edge {
-        beside: left_after(beside, own),
-        last: left_after(last, chunk.last),
-    })
+    Ok(left_after(beside, own))
 }
 
-fn copy_of(alloc: Global, text: &Option<Text>) -> Result<Option<Text>, NoMemory>
+pub fn copy_of(alloc: Global, text: &Option<Text>) -> Result<Option<Text>, NoMemory>
     ensures { IfOk result (λ copy. copy ≡ text.now) }
 {
     match text {
@@ -155,7 +176,7 @@ fn left_at(left: Option<Text>, gap: &[u8]) -> Option<Text>
     if gap.is_empty() { left } else { None }
 }
 
-fn left_after(left: Option<Text>, last: Option<Text>) -> Option<Text>
+pub fn left_after(left: Option<Text>, last: Option<Text>) -> Option<Text>
     ensures { result ≡ left_after left last }
 {
     match last {

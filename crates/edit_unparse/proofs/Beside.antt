@@ -287,7 +287,7 @@ nothing p k of e none =
     let both : None ≡ Some (kind_or_stray p.kind) = sym (ap kind_of_piece e ∙ none) ∙ h.0 in
     cc
 
-ends_by : (p : TextPiece) → IsOfKind p → (kind_of_piece p.kind ≡ Some kind.Stray → ⊥) → (k : PieceKind) → p.kind ≡ k
+pub ends_by : (p : TextPiece) → IsOfKind p → (kind_of_piece p.kind ≡ Some kind.Stray → ⊥) → (k : PieceKind) → p.kind ≡ k
     → (c : ℕ) (os : List ℕ) → (c ≡ 10 → ⊥) → IsFirstPiece p (c ∷ os) → Free p
 ends_by p of no_stray Blank e c os other was = inl e
 ends_by p of no_stray Comment e c os other was =

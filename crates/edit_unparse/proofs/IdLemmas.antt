@@ -2,8 +2,7 @@
 use Rattle.std.proofs.Common.{◌≡◌, ◌<◌, ◌≤◌, ◌+◌, ℕ, suc, Bool, true, false, not, cond, refl, sym, ap, subst, ◌∙◌, arith, List, [], ◌∷◌, ◌++◌, length, map}
 use Rattle.std.specs.Prelude.{Option, None, Some, All, nat_lt}
 use Rattle.std.specs.List.{filter}
-use Rattle.std.proofs.lemmas.List.Elements.{All-nil, All-cons, All-head, All-tail, All-append, All-weaker}
-use Rattle.std.proofs.lemmas.Bool.{cases_eq}
+use Rattle.std.proofs.lemmas.List.Elements.{All-nil, All-cons, All-head, All-tail}
 use Rattle.std.proofs.lemmas.Bool.Decides.{Decides-ltb}
 use Rattle.c_lexer.specs.declared.piece.PieceKind.{PieceKind}
 use Rattle.c_lexer.specs.declared.piece.PieceKind.TheVariants.{Word, Blank, Comment, Line}
@@ -13,7 +12,7 @@ use Rattle.c_lexer.specs.Ids.{ids_of, id_before}
 use Rattle.edit_marks.specs.declared.edit_conflict.edit.Side.TheVariants.{Before, After}
 use Rattle.edit_marks.specs.declared.edit_conflict.edit.Edit.{Edit}
 use Rattle.edit_unparse.specs.Cutting.{cut}
-use Rattle.edit_unparse.specs.Output.{Part, Left, inserted, is_removed, new_part, new_parts, added, old_part, kept, parts_at}
+use Rattle.edit_unparse.specs.Output.{Part, Left, inserted, is_removed, new_part, new_parts, added, kept, parts_at}
 use Rattle.edit_unparse.specs.Output.{placed, left_of, gap, with_next, next_after, spaced, output_of}
 use Rattle.edit_unparse.specs.NextId.{free_id}
 use Rattle.edit_unparse.proofs.WrittenLemmas.{ids_of-append, gap_ids}

@@ -98,7 +98,7 @@ added_new [] e = tt
 added_new (t ∷ texts) e = all_new-append (new_parts t) (added texts)
     (cut_new (cut t) (cut-lexes t).1.0 (both_first (is_plain_text t) _ e)) (added_new texts (both_second (is_plain_text t) _ e))
 
-beside_new : (o p : Option ℕ) → p ≡ None → were_beside o p ≡ false
+pub beside_new : (o p : Option ℕ) → p ≡ None → were_beside o p ≡ false
 beside_new None p e = refl
 beside_new (Some a) p e = ap (were_beside (Some a)) e
 
@@ -235,7 +235,7 @@ Ready p n text after_one = Apart p n ⊎ Next p n text after_one
 pub new_apart : (p : Part) (n : ℕ) → New p → Apart p n
 new_apart p n new = record { free = new.free; were = λ o least. new_beside p.from o new.from }
 
-far_beside : (a : ℕ) (n : ℕ) (o : Option ℕ) → a + 1 < n → ((m : ℕ) → o ≡ Some m → n ≤ m) → were_beside (Some a) o ≡ false
+pub far_beside : (a : ℕ) (n : ℕ) (o : Option ℕ) → a + 1 < n → ((m : ℕ) → o ≡ Some m → n ≤ m) → were_beside (Some a) o ≡ false
 far_beside a n None less least = refl
 far_beside a n (Some m) less least = by (m == a + 1) refl
   where

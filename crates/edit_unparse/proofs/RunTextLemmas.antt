@@ -11,9 +11,8 @@ use Rattle.c_lexer.specs.Ids.{ids_of}
 use Rattle.edit_marks.specs.declared.edit_conflict.edit.Edit.{Edit}
 use Rattle.edit_unparse.specs.declared.draft.Draft.{Draft}
 use Rattle.edit_unparse.specs.declared.draft.Place.{Place}
-use Rattle.c_show.specs.Joint.{runs_together}
 use Rattle.edit_unparse.specs.Output.{Part, Left, left_of, is_word, space, gap, needs_space, were_beside, spaced, old_part}
-use Rattle.edit_unparse.specs.Output.{kept, added, inserted, is_removed, token_parts, parts_at, placed}
+use Rattle.edit_unparse.specs.Output.{placed}
 use Rattle.edit_unparse.specs.Written.{left, Writes, Overflows}
 use Rattle.edit_unparse.specs.Runs.{run_of, old_parts, Untouched, Passes, SameButIds}
 use Rattle.edit_unparse.proofs.WrittenLemmas.{text_of-append, ids_of-append, gap_ids, overflows_more}

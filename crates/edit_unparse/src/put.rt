@@ -1,7 +1,7 @@
 // Writes the new text piece by piece.
-ghost use Rattle.std.specs.Prelude.{◌≡◌, ◌≤◌, ◌<◌, ◌+◌, ◌^◌, ◌∷◌, [], ◌++◌, length, drop, OnOk, IfOk, IsErrOf, Some, None};
+ghost use Rattle.std.specs.Prelude.{◌≡◌, ◌≤◌, ◌<◌, ◌+◌, ◌∷◌, [], ◌++◌, length, OnOk, IsErrOf, Some, None};
 ghost use Rattle.c_lexer.specs.Spans.{kind_with_id};
-ghost use Rattle.c_lexer.specs.Pieces.{text_of, TextPiece, most_bytes};
+ghost use Rattle.c_lexer.specs.Pieces.{text_of, most_bytes};
 ghost use Rattle.edit_unparse.specs.Output.{Part, gap, is_word, old_part, were_beside};
 ghost use Rattle.edit_unparse.specs.Written.{Writes, Overflows, left};
 

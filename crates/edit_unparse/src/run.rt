@@ -7,7 +7,7 @@ ghost use Rattle.edit_marks.specs.declared.edit_conflict.edit.Edit.{Edit};
 ghost use Rattle.edit_unparse.specs.declared.fault.OutFault.TheVariants.{NoMemory};
 ghost use Rattle.edit_unparse.specs.Output.{gap, left_of, old_part, placed};
 ghost use Rattle.edit_unparse.specs.Written.{Writes, Overflows, left};
-ghost use Rattle.edit_unparse.specs.Runs.{run_of, old_parts, is_stop, Untouched, Passes, IsRun, SameButIds};
+ghost use Rattle.edit_unparse.specs.Runs.{run_of, old_parts, is_stop, Untouched, IsRun, SameButIds};
 
 use crate::draft::{Draft, Last, Place};
 use crate::fault::OutFault;

@@ -69,12 +69,12 @@ cons_below : (n : ℕ) (o : Option ℕ) (rest : List ℕ) → IfSome o (λ m. m 
 cons_below n None rest one all = all
 cons_below n (Some m) rest one all = All-cons (λ m. m < n) m rest one all
 
-files_below : (ids files : List ℕ) → All (λ m. m < length ids) (filter_map (number_of ids) files)
+pub files_below : (ids files : List ℕ) → All (λ m. m < length ids) (filter_map (number_of ids) files)
 files_below ids [] = All-nil (λ m. m < length ids)
 files_below ids (f ∷ files) =
     cons_below (length ids) (number_of ids f) (filter_map (number_of ids) files) (number_within ids f) (files_below ids files)
 
-abbrev AreBelow : ℕ → Aligned → Type 0
+abbrev pub AreBelow : ℕ → Aligned → Type 0
 AreBelow n p = All (λ m. m < n) p.files
 
 if_below : (n : ℕ) (b : Bool) (p : Aligned) → AreBelow n p → All (AreBelow n) (if b then p ∷ [] else [])
@@ -88,7 +88,7 @@ all_below ids (p ∷ pairs) =
     (if_below (length ids) (nat_lt p.pattern (2 ^ 32)) (record { pattern = p.pattern; files = filter_map (number_of ids) p.files }) (files_below ids p.files))
     (all_below ids pairs)
 
-pairs_below : (ids : List ℕ) (found : Option (List AlignedToken)) → All (AreBelow (length ids)) (pairs_of ids found)
+pub pairs_below : (ids : List ℕ) (found : Option (List AlignedToken)) → All (AreBelow (length ids)) (pairs_of ids found)
 pairs_below ids None = All-nil (AreBelow (length ids))
 pairs_below ids (Some pairs) = all_below ids pairs
 
@@ -96,7 +96,7 @@ if_minus : (n : ℕ) (b : Bool) (files : List ℕ) → All (λ m. m < n) files �
 if_minus n true files h = h
 if_minus n false files h = All-nil (λ m. m < n)
 
-minus_below : (tokens : List PatToken) (n : ℕ) (pairs : List Aligned) → All (AreBelow n) pairs → All (λ m. m < n) (minus_tokens tokens pairs)
+pub minus_below : (tokens : List PatToken) (n : ℕ) (pairs : List Aligned) → All (AreBelow n) pairs → All (λ m. m < n) (minus_tokens tokens pairs)
 minus_below tokens n [] h = All-nil (λ m. m < n)
 minus_below tokens n (p ∷ pairs) h =
     All-append (λ m. m < n) (if is_minus_at tokens p.pattern then p.files else []) (minus_tokens tokens pairs)
@@ -126,7 +126,7 @@ inserts_within decls tokens env files removed (s ∷ spots) =
 
 -- ---- as many tokens as ids
 
-count_of : (bytes : List ℕ) (at : ℕ) (pieces : List TextPiece) → length (tokens_from bytes at pieces) ≡ length (ids_of pieces)
+pub count_of : (bytes : List ℕ) (at : ℕ) (pieces : List TextPiece) → length (tokens_from bytes at pieces) ≡ length (ids_of pieces)
 count_of bytes at [] = refl
 count_of bytes at (p ∷ pieces) = by p.kind (count_of bytes (at + length p.text) pieces)
   where

@@ -17,7 +17,7 @@ use Rattle.edit_marks.specs.EditWalk.Touches.{Touched, touches}
 use Rattle.edit_marks.specs.EditWalk.Named.{pairs_at}
 use Rattle.edit_marks.specs.EditWalk.Edited.{IsEditAt, AreEdits}
 
-each_one : (R : Touched → Edit → Type 0) → ((t : Touched) (a b : Edit) → R t a → R t b → a ≡ b) → (ts : List Touched) (as' bs : List Edit)
+pub each_one : (R : Touched → Edit → Type 0) → ((t : Touched) (a b : Edit) → R t a → R t b → a ≡ b) → (ts : List Touched) (as' bs : List Edit)
     → AllZip R ts as' → AllZip R ts bs → as' ≡ bs
 each_one R one [] [] [] h k = refl
 each_one R one [] [] (b ∷ bs) h k = absurd k

@@ -24,15 +24,15 @@ first_not_less Less p e = e
 first_not_less Equal p e = refl
 first_not_less Greater p e = refl
 
-side_is : (after : Bool) → side_number (side_of after) ≡ side after
+pub side_is : (after : Bool) → side_number (side_of after) ≡ side after
 side_is true = refl
 side_is false = refl
 
 -- an insert that is at a place of plus code
-abbrev IsAtSpot : PlusSpot → Insert → Type 0
+abbrev pub IsAtSpot : PlusSpot → Insert → Type 0
 IsAtSpot s i = (i.token ≡ s.token) × (side_number i.side ≡ side s.after)
 
-not_less : (s t : PlusSpot) (i j : Insert) → IsAtSpot s i → IsAtSpot t j → is_lt (spot_order t s) ≡ false → is_lt (insert_order j i) ≡ false
+pub not_less : (s t : PlusSpot) (i j : Insert) → IsAtSpot s i → IsAtSpot t j → is_lt (spot_order t s) ≡ false → is_lt (insert_order j i) ≡ false
 not_less s t i j a b e =
     (λ k. is_lt (ordering_then (nat_cmp (b.0 k) (a.0 k)) (nat_cmp (b.1 k) (a.1 k))))
     ∙ first_not_less (ordering_then (nat_cmp t.token s.token) (nat_cmp (side t.after) (side s.after))) (nat_cmp t.pattern s.pattern) e

@@ -7,7 +7,6 @@ use Rattle.smpl_terms.specs.declared.value.Value.{Value}
 use Rattle.smpl_patch.specs.declared.witness.Witness.{Witness}
 use Rattle.smpl_patch.specs.declared.witness.Witness.TheVariants.{Bind, Touch, rolls-Bind, rolls-Touch}
 use Rattle.smpl_patch.specs.declared.witness.Witness.TheFolds.{fold-Witness, fold-roll-Witness}
-use Rattle.edit_marks.specs.declared.edit_conflict.edit.Edit.{Edit}
 use Rattle.edit_marks.specs.EditWalk.Touches.{Values, Touched, bound, touch_step, touches_in}
 use Rattle.edit_marks.specs.EditWalk.Growing.{Adds}
 use Rattle.edit_marks.proofs.EditWalk.GrowingLemmas.{adds_one, adds_end}
@@ -26,14 +25,14 @@ touches-Bind item node x v under env =
     ∙ flat_map-map (λ (f : Values → List Touched). f (bound env x v)) (fold-Witness (Values → List Touched) (touch_step item)) under
 
 -- one touch
-pub touch_adds : (R : Touched → Edit → Type 0) (old new : List Edit) (edit : Edit) (item node atom : ℕ) (path : List ℕ) (env : Values) (t : Witness)
+pub touch_adds : {E : Type 0} (R : Touched → E → Type 0) (old new : List E) (edit : E) (item node atom : ℕ) (path : List ℕ) (env : Values) (t : Witness)
     → t ≡ Touch node atom path → R (touched item node atom path env) edit → new ≡ old ++ edit ∷ [] → Adds R old new (touches_in item env t)
 touch_adds R old new edit item node atom path env t is edits h =
     subst (Adds R old new) (sym (ap (touches_in item env) is ∙ touches-Touch item node atom path env))
     (adds_one R old new (touched item node atom path env) edit edits h)
 
 -- all trees under a value
-pub bind_adds : (R : Touched → Edit → Type 0) (old new : List Edit) (item node : ℕ) (x : Var) (v : Value)
+pub bind_adds : {E : Type 0} (R : Touched → E → Type 0) (old new : List E) (item node : ℕ) (x : Var) (v : Value)
     (under trees : List Witness) (env more : Values) (t : Witness) (n : ℕ)
     → t ≡ Bind node x v under → trees ≡ under → more ≡ bound env x v → length trees ≤ n
     → Adds R old new (flat_map (touches_in item more) (take n trees)) → Adds R old new (touches_in item env t)

@@ -30,6 +30,10 @@ part_of (Skipped span why) path = None
 abbrev pub tree_at : List Item → ℕ → List ℕ → Option Tree
 tree_at items item path = option_and_then (λ i. part_of i path) (slice_get items item)
 
+-- the tree of an item that was read
+abbrev pub tree_of : List Item → ℕ → Option Tree
+tree_of items item = option_and_then (λ i. part_of i []) (slice_get items item)
+
 -- numbers in place of ids; tokens without a number are left out
 abbrev pub numbered : List ℕ → AlignedToken → List Aligned
 numbered ids p = if nat_lt p.pattern (2 ^ 32) then record { pattern = p.pattern; files = filter_map (number_of ids) p.files } ∷ [] else []

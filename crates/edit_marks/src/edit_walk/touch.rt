@@ -107,6 +107,26 @@ fn pairs_of(
     }
 }
 
+/// Returns the pairs of numbers at a touch: none if nothing is aligned there.
+pub fn pairs_at_touch(
+    alloc: Global,
+    context: &WalkContext<'_>,
+    env: &Env,
+    item: u32,
+    node: u32,
+    atom: u32,
+    path: &TreePath,
+) -> Result<Vec<Aligned>, NoMemory>
+    requires { IsWalkContext context.now }
+    ensures { IfOk result (λ pairs. pairs.items
+        ≡ spec.pairs_at (patterns_at context.now) context.now.decls.now context.now.tokens.now context.now.items.now
+        context.now.nodes.now context.now.ids.now
+        (record { item = item; node = node; atom = atom; path = path.now; env = env.now })) }
+{
+    let found = alignment(alloc, context, env, item, node, atom, path)?;
+    pairs_of(alloc, context.ids, found)
+}
+
 /// Returns the edit of a touch.
 pub fn touch_edit(
     alloc: Global,
@@ -121,8 +141,7 @@ pub fn touch_edit(
     ensures { IfOk result (IsEditHere context.now
         (record { item = item; node = node; atom = atom; path = path.now; env = env.now })) }
 {
-    let found = alignment(alloc, context, env, item, node, atom, path)?;
-    let pairs = pairs_of(alloc, context.ids, found)?;
+    let pairs = pairs_at_touch(alloc, context, env, item, node, atom, path)?;
     let edit = edit_of(
         alloc,
         context.decls,

@@ -100,7 +100,7 @@ fn all_edits(
     Ok(all)
 }
 
-fn atoms_of(alloc: Global, patterns: &[&Pattern]) -> Result<Vec<u64>, NoMemory>
+pub(crate) fn atoms_of(alloc: Global, patterns: &[&Pattern]) -> Result<Vec<u64>, NoMemory>
     ensures { IfOk result (λ atoms. atoms.items
         ≡ map (λ p. p.atom) (map (λ p. p.now) patterns.now)) }
 {
@@ -190,7 +190,7 @@ fn put_tree(
 }
 
 /// Returns the environment with one more value. A variable that already has a value keeps it.
-fn bound(alloc: Global, env: &Env, x: &Var, value: &Value) -> Result<Env, NoMemory>
+pub(crate) fn bound(alloc: Global, env: &Env, x: &Var, value: &Value) -> Result<Env, NoMemory>
     ensures { IfOk result (λ more. more ≡ bound env.now x.now value.now) }
 {
     if env.has(x) {

@@ -1,0 +1,23 @@
+-- Lemmas of tidy.
+pub mod WordLemmas
+pub mod BracketLemmas
+pub mod DepthLemmas
+pub mod PlaceLemmas
+pub mod PlaceOrder
+pub mod EntryLemmas
+pub mod RemovedLemmas
+pub mod SearchLemmas
+pub mod EditLemmas
+pub mod TouchLemmas
+pub mod SoundLemmas
+pub mod OutlineLemmas
+pub mod GatherLemmas
+pub mod FlagLemmas
+pub mod GoesLemmas
+pub mod PairLemmas
+pub mod FitLemmas
+pub mod WalkLemmas
+pub mod OneList
+pub mod Examples
+pub mod DepthExamples
+pub mod PlaceExamples

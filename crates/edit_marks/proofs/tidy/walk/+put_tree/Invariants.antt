@@ -1,0 +1,10 @@
+use Rattle.std.proofs.Common.{take}
+use Rattle.std.specs.List.{flat_map}
+use Rattle.edit_marks.specs.EditWalk.Touches.{touches_in}
+use Rattle.edit_marks.specs.EditWalk.Growing.{Adds}
+use Rattle.edit_marks.specs.Tidy.Touch.{IsTidyTouchHere}
+use Rattle.edit_marks.proofs.tidy.walk.+put_tree.Given as goal
+
+abbrev pub invariant-loop-below : goal.invariant-loop-below
+invariant-loop-below l = Adds (IsTidyTouchHere l.context) l.initial.touches.items l.touches.items
+    (flat_map (touches_in l.item l.inner) (take l.below-index l.below-items))

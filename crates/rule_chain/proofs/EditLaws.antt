@@ -3,4 +3,5 @@
 pub mod AlignLemmas
 pub mod ValueLemmas
 pub mod BareEdits
+pub mod BareTidyEdits
 pub mod FairLemmas

@@ -3,6 +3,8 @@ pub mod StopLemmas
 pub mod StepLemmas
 pub mod CutLemmas
 pub mod OnceLemmas
+pub mod TidyOnceLemmas
+pub mod ChainOnceLemmas
 pub mod NoteLemmas
 pub mod WordLemmas
 pub mod StandLemmas

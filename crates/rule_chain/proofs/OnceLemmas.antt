@@ -1,9 +1,9 @@
--- A chain has at most one end.
+-- One rule over a text that isn't tidied leads to at most one state, or meets at most one fault.
 use Rattle.std.proofs.Common.{◌≡◌, ◌<◌, ◌≤◌, ◌⊎◌, ℕ, Bool, true, false, ◌&&◌, Some, refl, sym, ap, ◌∙◌, subst}
-use Rattle.std.proofs.Common.{inl, inr, suc, arith, List, [], ◌∷◌, ◌++◌}
+use Rattle.std.proofs.Common.{inl, inr, suc, arith, List, [], ◌++◌}
 use Rattle.std.specs.Prelude.{slice_get}
 use Rattle.c_lexer.specs.Pieces.{TextPiece}
-use Rattle.c_lexer.specs.Lexes.{Cuts, Lexes}
+use Rattle.c_lexer.specs.Lexes.{Cuts}
 use Rattle.c_lexer.specs.Ids.{ids_of}
 use Rattle.c_lexer.specs.Pieces.{text_of}
 use Rattle.cpp_lines.specs.declared.reading.Item.{Item}
@@ -23,10 +23,9 @@ use Rattle.rule_chain.specs.RuleEdits.Faults.{AreFine, IsEditFault}
 use Rattle.rule_chain.specs.RuleEdits.Faults.IsEditFault.{conflict, too_long}
 use Rattle.rule_chain.specs.declared.rule_run.fault.FileFault.{FileFault}
 use Rattle.rule_chain.specs.RuleRun.Notes.{notes_on}
-use Rattle.rule_chain.specs.RuleRun.States.{Chained, ReadsAgain, first_state, needed_notes}
+use Rattle.rule_chain.specs.RuleRun.States.{Chained, ReadsAgain, needed_notes}
 use Rattle.rule_chain.specs.RuleRun.OneRule.{edit_fault, MayRead, AreFew, RuleEdits, IsFault, Leads, state_after, is_too_much, file_witnesses}
 use Rattle.rule_chain.specs.RuleRun.OneRule.IsFault.{too_many_witnesses, too_many_environments, in_edits}
-use Rattle.rule_chain.specs.Chain.{Outcome, Refused, Runs, Chain, is_followed}
 
 -- ---- the first clash
 
@@ -48,7 +47,7 @@ not_both c d (inr a) (inr b) = by a.1 b.1
         let r : d.second ≤ c.second = y.1 in
         same_clash c d a.0 x.0 (omega arith)
 
-first_once : (edits : List Edit) (c d : Clash) → IsFirstClash edits c → IsFirstClash edits d → c ≡ d
+pub first_once : (edits : List Edit) (c d : Clash) → IsFirstClash edits c → IsFirstClash edits d → c ≡ d
 first_once edits c d one two = not_both c d (one.first d two.clash) (two.first c one.clash)
 
 -- ---- the faults of edits
@@ -84,21 +83,22 @@ HaveOneReading = (pieces : List TextPiece) (a b : List Item) → Reads pieces a 
 abbrev pub HaveOneShown : Type 0
 HaveOneShown = (pieces : List TextPiece) (a b : List ℕ) → AreShown pieces a → AreShown pieces b → a ≡ b
 
+pub few_or_many : (defined : List (List ℕ)) (number : ℕ) (rule : Rule) (s : Chained) → AreFew defined number rule s
+    → is_too_much defined number rule s ≡ true → ⊥
+few_or_many defined number rule s few many = let e : false ≡ true = sym few.witnesses ∙ many in absurd cc
+
 module _ (one_list : HaveOneList) (defined : List (List ℕ)) (number : ℕ) (rule : Rule) (s : Chained) where
   edits_once : (a b : List Edit) → RuleEdits defined number rule s a → RuleEdits defined number rule s b → a ≡ b
   edits_once a b = one_list (file_witnesses defined number rule s) rule s.items (nodes_of rule s.items) s.pieces a b
 
-  few_or_many : AreFew defined number rule s → is_too_much defined number rule s ≡ true → ⊥
-  few_or_many few many = let e : false ≡ true = sym few.witnesses ∙ many in absurd cc
-
   pub fault_once : (f g : FileFault) → IsFault defined number rule s f → IsFault defined number rule s g → f ≡ g
   fault_once _ _ (too_many_witnesses a) (too_many_witnesses b) = refl
   fault_once _ _ (too_many_witnesses a) (too_many_environments b more) = let e : true ≡ false = sym a ∙ b in absurd cc
-  fault_once _ _ (too_many_witnesses a) (in_edits edits fault few are is) = absurd (few_or_many few a)
+  fault_once _ _ (too_many_witnesses a) (in_edits edits fault few are is) = absurd (few_or_many defined number rule s few a)
   fault_once _ _ (too_many_environments b more) (too_many_witnesses a) = let e : true ≡ false = sym a ∙ b in absurd cc
   fault_once _ _ (too_many_environments b more) (too_many_environments c most) = refl
   fault_once _ _ (too_many_environments b more) (in_edits edits fault few are is) = let e = few.environments in absurd (omega arith)
-  fault_once _ _ (in_edits edits fault few are is) (too_many_witnesses a) = absurd (few_or_many few a)
+  fault_once _ _ (in_edits edits fault few are is) (too_many_witnesses a) = absurd (few_or_many defined number rule s few a)
   fault_once _ _ (in_edits edits fault few are is) (too_many_environments b more) = let e = few.environments in absurd (omega arith)
   fault_once _ _ (in_edits edits fault few are is) (in_edits others other less same was) =
       let e : edits ≡ others = edits_once edits others are same in
@@ -106,7 +106,7 @@ module _ (one_list : HaveOneList) (defined : List (List ℕ)) (number : ℕ) (ru
       ap (edit_fault number) (edit_faults_once s.page.next s.pieces others fault other there was)
 
   pub leads_or_fault : (followed : Bool) (next : Chained) (f : FileFault) → Leads defined number rule followed s next → IsFault defined number rule s f → ⊥
-  leads_or_fault followed next _ leads (too_many_witnesses a) = few_or_many leads.few a
+  leads_or_fault followed next _ leads (too_many_witnesses a) = few_or_many defined number rule s leads.few a
   leads_or_fault followed next _ leads (too_many_environments b more) = let e = leads.few.environments in omega arith
   leads_or_fault followed next _ leads (in_edits edits fault few are is) =
       let e : edits ≡ leads.edits = edits_once edits leads.edits are leads.are in
@@ -116,10 +116,10 @@ module _ (one_list : HaveOneList) (defined : List (List ℕ)) (number : ℕ) (ru
 
 module _ (one_reading : HaveOneReading) (one_shown : HaveOneShown) (p q : List TextPiece) (e : p ≡ q) (a b : List Item)
     (one : Reads p a) (two : Reads q b) where
-  one_items : a ≡ b
+  pub one_items : a ≡ b
   one_items = one_reading q a b (subst (λ (x : List TextPiece). Reads x a) e one) two
 
-  one_sight : one.0 ≡ two.0
+  pub one_sight : one.0 ≡ two.0
   one_sight = one_shown q one.0 two.0 (subst (λ (x : List TextPiece). AreShown x one.0) e one.1) two.1
 
 module _ (one_cut : HaveOneCut) (one_reading : HaveOneReading) (one_shown : HaveOneShown) where
@@ -139,41 +139,17 @@ module _ (one_cut : HaveOneCut) (one_reading : HaveOneReading) (one_shown : Have
       })
       ∙ sym two.is
 
-  may_once : (b : Bool) (s x y : Chained) → MayRead b s x → MayRead b s y → x ≡ y
+  pub may_once : (b : Bool) (s x y : Chained) → MayRead b s x → MayRead b s y → x ≡ y
   may_once true s x y one two = again_once s x y one two
   may_once false s x y one two = one ∙ sym two
 
--- ---- the whole chain
+-- ---- the state after a rule
 
 module _ (one_list : HaveOneList) (one_cut : HaveOneCut) (one_reading : HaveOneReading) (one_shown : HaveOneShown) (defined : List (List ℕ)) where
-  leads_once : (number : ℕ) (rule : Rule) (followed : Bool) (s a b : Chained)
+  pub leads_once : (number : ℕ) (rule : Rule) (followed : Bool) (s a b : Chained)
       → Leads defined number rule followed s a → Leads defined number rule followed s b → a ≡ b
   leads_once number rule followed s a b one two =
       let e : one.edits ≡ two.edits = edits_once one_list defined number rule s one.edits two.edits one.are two.are in
       let reads : MayRead (is_edited two.edits && followed) (state_after defined number rule s two.edits) a =
       subst (λ (x : List Edit). MayRead (is_edited x && followed) (state_after defined number rule s x) a) e one.reads in
       may_once one_cut one_reading one_shown (is_edited two.edits && followed) (state_after defined number rule s two.edits) a b reads two.reads
-
-  runs_once : (number : ℕ) (rules : List Rule) (s : Chained) (a b : Outcome) → Runs defined number rules s a → Runs defined number rules s b → a ≡ b
-  runs_once number [] s a b one two = one ∙ sym two
-  runs_once number (rule ∷ rules) s a b (inl one) (inl two) =
-      one.1.1 ∙ ap Refused (fault_once one_list defined number rule s one.0 two.0 one.1.0 two.1.0) ∙ sym two.1.1
-  runs_once number (rule ∷ rules) s a b (inl one) (inr two) =
-      absurd (leads_or_fault one_list defined number rule s (is_followed rules) two.0 one.0 two.1.0 one.1.0)
-  runs_once number (rule ∷ rules) s a b (inr one) (inl two) =
-      absurd (leads_or_fault one_list defined number rule s (is_followed rules) one.0 two.0 one.1.0 two.1.0)
-  runs_once number (rule ∷ rules) s a b (inr one) (inr two) =
-      let next : one.0 ≡ two.0 = leads_once number rule (is_followed rules) s one.0 two.0 one.1.0 two.1.0 in
-      runs_once (suc number) rules two.0 a b (subst (λ (x : Chained). Runs defined (suc number) rules x a) next one.1.1) two.1.1
-
-  pub chain_once : ((bytes : List ℕ) (a b : List TextPiece) → Lexes bytes a → Lexes bytes b → a ≡ b)
-      → (rules : List Rule) (bytes : List ℕ) (end other : Outcome) → Chain rules defined bytes end → Chain rules defined bytes other → end ≡ other
-  chain_once lexes_once rules bytes end other one two =
-      let pieces : one.pieces ≡ two.pieces = lexes_once bytes one.pieces two.pieces one.cut two.cut in
-      let items = one_items one_reading one_shown one.pieces two.pieces pieces one.items two.items one.reads two.reads in
-      let shown = one_sight one_reading one_shown one.pieces two.pieces pieces one.items two.items one.reads two.reads in
-      let start : first_state one.pieces one.reads.0 one.items ≡ first_state two.pieces two.reads.0 two.items =
-      (λ i. first_state (pieces i) (shown i) (items i)) in
-      let runs : Runs defined 0 rules (first_state two.pieces two.reads.0 two.items) end =
-      subst (λ (x : Chained). Runs defined 0 rules x end) start one.runs in
-      runs_once 0 rules (first_state two.pieces two.reads.0 two.items) end other runs two.runs

@@ -1,6 +1,7 @@
 -- Nothing happens to a text in which each rule lacks a word.
-use Rattle.std.proofs.Common.{◌≡◌, ◌<◌, ◌≤◌, ◌^◌, ◌||◌, ◌&&◌, ℕ, zero, suc, Bool, true, false, cond, refl, sym, ap, ◌∙◌, subst, arith, inl, inr}
+use Rattle.std.proofs.Common.{◌≡◌, ◌<◌, ◌≤◌, ◌^◌, ◌||◌, ◌&&◌, ℕ, zero, suc, Bool, true, false, refl, sym, ap, ◌∙◌, subst, arith, inl, inr}
 use Rattle.std.proofs.Common.{List, [], ◌∷◌, ◌++◌, Some, None, length, map}
+use Rattle.std.proofs.Math.Path.{subst₂}
 use Rattle.std.specs.Prelude.{nat_lt, All, Option, IfSome, slice_get, slice_range}
 use Rattle.std.specs.Option.{option_map_or}
 use Rattle.std.specs.List.{AllZip, list_any, flat_map}
@@ -35,6 +36,7 @@ use Rattle.ctl_fixpoint.specs.RequiredWords.Words.{is_word_kind, is_word, has_wo
 use Rattle.ctl_fixpoint.proofs.RequiredWords.WordLemmas.{and_right}
 use Rattle.ctl_translate.specs.Rules.{formula_of}
 use Rattle.edit_marks.specs.declared.edit_conflict.edit.Edit.{Edit}
+use Rattle.edit_marks.specs.declared.tidy.walk.TidiedEdits.{TidiedEdits}
 use Rattle.edit_marks.specs.EditConflict.Once.{once}
 use Rattle.edit_marks.specs.EditWalk.Edited.{AreEdits, IsEditAt}
 use Rattle.env_parts.specs.Parts.{Pairs}
@@ -49,7 +51,7 @@ use Rattle.rule_chain.specs.declared.rule_edits.fault.EditFault.{EditFault}
 use Rattle.rule_chain.specs.RuleEdits.Nodes.{nodes_of}
 use Rattle.rule_chain.specs.RuleEdits.Faults.{IsEditFault}
 use Rattle.rule_chain.specs.RuleEdits.Faults.IsEditFault.{conflict, too_long}
-use Rattle.rule_chain.specs.RuleEdits.Pages.{is_edited}
+use Rattle.rule_chain.specs.RuleEdits.Pages.{Page, is_edited}
 use Rattle.rule_chain.specs.FileWitnesses.Seen.{seen_graph}
 use Rattle.rule_chain.specs.FileWitnesses.Found.{witnesses_in, is_large, found_from, is_large_from, found_under, is_large_under, brings}
 use Rattle.rule_chain.specs.RuleMatches.Matching.{rule_share, rule_projections}
@@ -58,13 +60,15 @@ use Rattle.rule_chain.specs.RuleRun.Needed.{is_word_at, holds_words, may_match, 
 use Rattle.rule_chain.specs.declared.rule_run.state.FileState.{FileState}
 use Rattle.rule_chain.specs.RuleRun.Outcomes.{AreFindingsOf}
 use Rattle.rule_chain.specs.RuleRun.States.{Chained, first_state, told_notes}
-use Rattle.rule_chain.specs.RuleRun.OneRule.{had_after, MayRead, file_witnesses, rule_file_envs, is_too_much, RuleEdits, state_after, IsFault, Leads}
+use Rattle.rule_chain.specs.RuleRun.OneRule.{had_after, MayRead, file_witnesses, rule_file_envs, is_too_much, RuleEdits, state_after, state_with}
+use Rattle.rule_chain.specs.RuleRun.Tidied.{TidyRuleEdits, IsTidyFault, IsFaultBy, LeadsBy}
 use Rattle.rule_chain.specs.RuleRun.OneRule.IsFault.{too_many_witnesses, too_many_environments, in_edits}
 use Rattle.rule_chain.specs.Chain.{Outcome, Done, Runs, Chain, is_followed}
 use Rattle.rule_chain.specs.Passed.{StandsIn, LacksWord, IsUntouched}
 use Rattle.rule_chain.proofs.FileWitnesses.LackLemmas.{nothing_without}
 use Rattle.rule_chain.proofs.NoteLemmas.{none_where}
 use Rattle.rule_chain.proofs.WordLemmas.{formula_needs, lacks_words}
+use Rattle.rule_chain.proofs.RuleEdits.TidyLemmas.{page_stays, no_tidy_fault, no_tidy_edit}
 
 -- ---- what the pieces of a text are stands in it
 
@@ -192,6 +196,9 @@ module _ (bytes : List ℕ) (pieces : List TextPiece) (text : text_of pieces ≡
   abbrev still : List Rule → Chained
   still ran = record (first_state pieces reads.0 items) { needed = record { shown = reads.0; ran = ran; earlier = [] } }
 
+  short_text : length (text_of pieces) ≤ most_bytes
+  short_text = subst (λ (b : List ℕ). length b ≤ most_bytes) (sym text) short
+
   lacks_all : (w : List ℕ) → (StandsIn bytes w → ⊥) → (i : ℕ) → IfSome (item_tree (slice_get items i)) (λ t. (node_count t < 2 ^ 32) × (has_word w t ≡ false))
   lacks_all w absent i =
       items_lack pieces w (λ h. absent (subst (λ (b : List ℕ). StandsIn b w) text h)) reads.0 listed_names
@@ -215,6 +222,15 @@ module _ (bytes : List ℕ) (pieces : List TextPiece) (text : text_of pieces ≡
     edits_none : (edits : List Edit) → RuleEdits defined number rule (still ran) edits → edits ≡ []
     edits_none edits are = no_edit rule items pieces (file_witnesses defined number rule (still ran)) edits nothing are
 
+    tidy_none : (made : TidiedEdits) → TidyRuleEdits defined number rule (still ran) made → is_edited made.list ≡ false
+    tidy_none made are = ap is_edited (no_tidy_edit rule items pieces (file_witnesses defined number rule (still ran)) made nothing are)
+
+    much_never : is_too_much defined number rule (still ran) ≡ true → ⊥
+    much_never much = let e : false ≡ true = sym calm ∙ much in absurd (cc)
+
+    many_never : most_environments < length (rule_file_envs defined number rule (still ran)) → ⊥
+    many_never many = let e : length (rule_file_envs defined number rule (still ran)) ≡ 1 = ap length envs_stay in omega (arith, e, many)
+
     abbrev ran_now : List Rule
     ran_now = ran_after ran rule (rule_projections defined [] number rule items first_file_envs)
 
@@ -222,18 +238,27 @@ module _ (bytes : List ℕ) (pieces : List TextPiece) (text : text_of pieces ≡
     left : state_after defined number rule (still ran) [] ≡ still ran_now
     left = (λ i. record (still ran_now) { file_envs = envs_stay i; had = had_after [] number (nothing i); found = nothing i })
 
-    leads_still : (followed : Bool) (next : Chained) → Leads defined number rule followed (still ran) next → next ≡ still ran_now
-    leads_still followed next leads =
+    leads_still : (tidy followed : Bool) (next : Chained) → LeadsBy tidy defined number rule followed (still ran) next → next ≡ still ran_now
+    leads_still false followed next leads =
         subst (λ (edits : List Edit). MayRead (is_edited edits && followed) (state_after defined number rule (still ran) edits) next)
         (edits_none leads.edits leads.are) leads.reads ∙ left
+    leads_still true followed next leads =
+        let none = tidy_none leads.made leads.are in
+        let page = page_stays (length (ids_of pieces)) pieces items leads.made leads.page none leads.fine.after in
+        subst₂ (λ (b : Bool) (p : Page). MayRead (b && followed) (state_with defined number rule (still ran) p) next) none page leads.reads ∙ left
 
-    never_faults : (fault : FileFault) → IsFault defined number rule (still ran) fault → ⊥
-    never_faults _ (too_many_witnesses much) = let e : false ≡ true = sym calm ∙ much in absurd (cc)
-    never_faults _ (too_many_environments few many) =
-        let e : length (rule_file_envs defined number rule (still ran)) ≡ 1 = ap length envs_stay in omega (arith, e, many)
-    never_faults _ (in_edits edits fault few are is) =
-        no_fault (length (ids_of pieces)) pieces fault (subst (λ (b : List ℕ). length b ≤ most_bytes) (sym text) short)
+    never_faults : (tidy : Bool) (fault : FileFault) → IsFaultBy tidy defined number rule (still ran) fault → ⊥
+    never_faults false _ (too_many_witnesses much) = much_never much
+    never_faults false _ (too_many_environments few many) = many_never many
+    never_faults false _ (in_edits edits fault few are is) =
+        no_fault (length (ids_of pieces)) pieces fault short_text
         (subst (λ (e : List Edit). IsEditFault (length (ids_of pieces)) pieces e fault) (edits_none edits are) is)
+    never_faults true _ (IsTidyFault.too_many_witnesses much) = much_never much
+    never_faults true _ (IsTidyFault.too_many_environments few many) = many_never many
+    never_faults true _ (IsTidyFault.in_edits made fault few are is) =
+        no_tidy_fault (length (ids_of pieces)) pieces items made fault short_text
+        (no_tidy_edit rule items pieces (file_witnesses defined number rule (still ran))
+        made nothing are) is
 
     still_lack : All (LacksWord bytes) ran → All (LacksWord bytes) ran_now
     still_lack all = by (rule_projections defined [] number rule items first_file_envs)
@@ -266,21 +291,21 @@ module _ (bytes : List ℕ) (pieces : List TextPiece) (text : text_of pieces ≡
       file_now : FileItems
       file_now = record { pieces = pieces; shown = reads.0; items = items }
 
-  runs_still : (number : ℕ) (rules : List Rule) → All (LacksWord bytes) rules → (ran : List Rule) → All (LacksWord bytes) ran → (end : Outcome)
-      → Runs defined number rules (still ran) end → (s : Chained) × ((end ≡ Done s) × IsUntouched bytes s)
-  runs_still number [] all ran lack end is = (still ran, (is, untouched ran lack))
-  runs_still number (rule ∷ rules) all ran lack end (inl fault) =
-      absurd (never_faults number rule (All-head (LacksWord bytes) rule rules all) ran fault.0 fault.1.0)
-  runs_still number (rule ∷ rules) all ran lack end (inr on) =
+  runs_still : (tidy : Bool) (number : ℕ) (rules : List Rule) → All (LacksWord bytes) rules → (ran : List Rule) → All (LacksWord bytes) ran → (end : Outcome)
+      → Runs tidy defined number rules (still ran) end → (s : Chained) × ((end ≡ Done s) × IsUntouched bytes s)
+  runs_still tidy number [] all ran lack end is = (still ran, (is, untouched ran lack))
+  runs_still tidy number (rule ∷ rules) all ran lack end (inl fault) =
+      absurd (never_faults number rule (All-head (LacksWord bytes) rule rules all) ran tidy fault.0 fault.1.0)
+  runs_still tidy number (rule ∷ rules) all ran lack end (inr on) =
       let own = All-head (LacksWord bytes) rule rules all in
-      runs_still (suc number) rules (All-tail (LacksWord bytes) rule rules all) (ran_now number rule own ran) (still_lack number rule own ran lack) end
-      (subst (λ (x : Chained). Runs defined (suc number) rules x end) (leads_still number rule own ran (is_followed rules) on.0 on.1.0) on.1.1)
+      runs_still tidy (suc number) rules (All-tail (LacksWord bytes) rule rules all) (ran_now number rule own ran) (still_lack number rule own ran lack) end
+      (subst (λ (x : Chained). Runs tidy defined (suc number) rules x end) (leads_still number rule own ran tidy (is_followed rules) on.0 on.1.0) on.1.1)
 
 -- the chain leaves such a text as it is
-pub chain_still : (rules : List Rule) (defined : List (List ℕ)) (bytes : List ℕ) (end : Outcome) → length bytes ≤ most_bytes
-    → All (LacksWord bytes) rules → Chain rules defined bytes end → (s : Chained) × ((end ≡ Done s) × IsUntouched bytes s)
-chain_still rules defined bytes end short all chain =
-    runs_still bytes chain.pieces chain.cut.0 short chain.items chain.reads defined 0 rules all [] (All-nil (LacksWord bytes)) end chain.runs
+pub chain_still : (tidy : Bool) (rules : List Rule) (defined : List (List ℕ)) (bytes : List ℕ) (end : Outcome) → length bytes ≤ most_bytes
+    → All (LacksWord bytes) rules → Chain tidy rules defined bytes end → (s : Chained) × ((end ≡ Done s) × IsUntouched bytes s)
+chain_still tidy rules defined bytes end short all chain =
+    runs_still bytes chain.pieces chain.cut.0 short chain.items chain.reads defined tidy 0 rules all [] (All-nil (LacksWord bytes)) end chain.runs
 
 -- ---- a state in which nothing has happened, and nothing was read
 

@@ -5,3 +5,6 @@ pub mod NodeLemmas
 pub mod LeaveLemmas
 pub mod TokenLemmas
 pub mod TreeLemmas
+pub mod TidyLemmas
+pub mod BodyLemmas
+pub mod TidyIdLemmas

@@ -42,9 +42,10 @@ followed (rule ∷ rules) zero lt = refl
 followed (rule ∷ rules) (suc i) lt = followed rules i (omega arith)
 
 -- no rule is left
-pub none_left : (defined : List (List ℕ)) (rules : List Rule) (done : ℕ) (s : Chained) → length rules ≤ done → Runs defined done (drop done rules) s (Done s)
-none_left defined rules done s all =
-    subst (λ (x : List Rule). Runs defined done x s (Done s)) (sym (drop_of_length-le rules all)) refl
+pub none_left : (tidy : Bool) (defined : List (List ℕ)) (rules : List Rule) (done : ℕ) (s : Chained) → length rules ≤ done
+    → Runs tidy defined done (drop done rules) s (Done s)
+none_left tidy defined rules done s all =
+    subst (λ (x : List Rule). Runs tidy defined done x s (Done s)) (sym (drop_of_length-le rules all)) refl
 
 -- ---- the notes that are told
 
@@ -177,21 +178,21 @@ pub are_told : (choice : Unread) (rules : List Rule) (r : Reached) (ran slice : 
     → AreTold choice rules r slice now → AreTold choice rules r ran now
 are_told choice rules r ran slice now same told = subst (λ (xs : List ℕ). AreTold choice rules r xs now) same told
 
-module _ (choice : Unread) (defined : List (List ℕ)) (rules : List Rule) (from done : ℕ) (s : Chained) (findings : FileState) (ran : List ℕ) where
-  pub ended : (on : LeadsOn defined rules from s done findings None ran) → length rules ≤ done → (applied : Applied)
-      → AnswersState choice applied on.state → Steps choice defined rules from s (Ended applied)
+module _ (tidy : Bool) (choice : Unread) (defined : List (List ℕ)) (rules : List Rule) (from done : ℕ) (s : Chained) (findings : FileState) (ran : List ℕ) where
+  pub ended : (on : LeadsOn tidy defined rules from s done findings None ran) → length rules ≤ done → (applied : Applied)
+      → AnswersState choice applied on.state → Steps tidy choice defined rules from s (Ended applied)
   ended on all applied answers =
-      (on.state, (back_to defined rules from done s findings ran on (Done on.state) (none_left defined rules done on.state all), answers))
+      (on.state, (back_to tidy defined rules from done s findings ran on (Done on.state) (none_left tidy defined rules done on.state all), answers))
 
-  pub went_on : (text : NewText) (on : LeadsOn defined rules from s done findings (Some text) ran) (st : Step)
-      → GoesOn choice rules done on.state st → Steps choice defined rules from s st
+  pub went_on : (text : NewText) (on : LeadsOn tidy defined rules from s done findings (Some text) ran) (st : Step)
+      → GoesOn choice rules done on.state st → Steps tidy choice defined rules from s st
   went_on text on (Ended applied) goes =
       let all : length rules ≤ done = goes.0 in (
         on.state,
         (
           on.back on.state (Done on.state)
               (subst (λ (x : List Rule). MayRead (is_followed x) on.state on.state) (sym (drop_of_length-le rules all)) refl)
-              (none_left defined rules done on.state all),
+              (none_left tidy defined rules done on.state all),
           goes.1,
         ),
       )
@@ -200,16 +201,16 @@ module _ (choice : Unread) (defined : List (List ℕ)) (rules : List Rule) (from
     (
       goes.1.1.0,
       λ end runs.
-          on.back goes.0 end goes.1.0 (subst (λ (n : ℕ). Runs defined n (drop n rules) goes.0 end) goes.1.1.1 runs),
+          on.back goes.0 end goes.1.0 (subst (λ (n : ℕ). Runs tidy defined n (drop n rules) goes.0 end) goes.1.1.1 runs),
     ),
   )
 
-  told_at : (r : Reached) (text : Option NewText) → IsAt choice r s → (on : LeadsOn defined rules from s done findings text ran)
+  told_at : (r : Reached) (text : Option NewText) → IsAt choice r s → (on : LeadsOn tidy defined rules from s done findings text ran)
       → told_notes choice on.state ≡ r.skipped ++ told_last choice on.ran_rules r.loaded r.reading r.file
   told_at r text at on = told_by choice r s on.state at on.ran_rules on.skipped on.needed (on.loaded ∙ at.loaded) (on.reading ∙ at.reading)
       (on.pieces ∙ at.at.pieces) (on.items ∙ at.at.items)
 
-  pub left_is : (r : Reached) (text : NewText) → IsAt choice r s → (on : LeadsOn defined rules from s done findings (Some text) ran)
+  pub left_is : (r : Reached) (text : NewText) → IsAt choice r s → (on : LeadsOn tidy defined rules from s done findings (Some text) ran)
       → (now : List SkipNote) → AreTold choice rules r ran now → IsLeft choice findings text r.reading r.loaded now on.state
   left_is r text at on now told = record {
     findings_are = on.findings_are;
@@ -220,23 +221,24 @@ module _ (choice : Unread) (defined : List (List ℕ)) (rules : List Rule) (from
   }
 
   -- from each state that the code's data describes
-  pub step_ended : (file : FileItems) (next : ℕ) (r : Reached) → Leading defined rules from done file next r.findings findings None ran
+  pub step_ended : (file : FileItems) (next : ℕ) (r : Reached) → Leading tidy defined rules from done file next r.findings findings None ran
       → IsAt choice r s → IsAtReading file next s → length rules ≤ done → (now : List SkipNote) → AreTold choice rules r ran now → (applied : Applied)
       → ((unread : Unread) (last : Chained) → AreFindingsOf findings last → r.bytes.items ≡ last.page.bytes → told_notes unread last ≡ now
       → AnswersState unread applied last)
-      → Steps choice defined rules from s (Ended applied)
+      → Steps tidy choice defined rules from s (Ended applied)
   step_ended file next r on at reading all now told applied answers =
-      let was : LeadsOn defined rules from s done findings None ran = on s at.findings reading in
+      let was : LeadsOn tidy defined rules from s done findings None ran = on s at.findings reading in
       ended was all applied (answers choice was.state was.findings_are
       (at.bytes ∙ ap (λ (p : Page). p.bytes) (sym was.page)) (told_at r None at was ∙ sym (told was.ran_rules was.numbered)))
 
-module _ (choice : Unread) (defined : List (List ℕ)) (rules : List Rule) where
+module _ (tidy : Bool) (choice : Unread) (defined : List (List ℕ)) (rules : List Rule) where
   -- the chain has come this far from there
   abbrev pub Coming : Reached → ℕ → Reached → Type 0
   Coming first from r = (s : Chained) → IsAt choice first s → (now : Chained) × (IsAt choice r now
-      × ((end : Outcome) → Runs defined r.done (drop r.done rules) now end → Runs defined from (drop from rules) s end))
+      × ((end : Outcome) → Runs tidy defined r.done (drop r.done rules) now end → Runs tidy defined from (drop from rules) s end))
 
-  pub comes_on : (first r next : Reached) (from : ℕ) → Coming first from r → ((s : Chained) → IsAt choice r s → Steps choice defined rules r.done s (On next))
+  pub comes_on : (first r next : Reached) (from : ℕ) → Coming first from r
+      → ((s : Chained) → IsAt choice r s → Steps tidy choice defined rules r.done s (On next))
       → Coming first from next
   comes_on first r next from on step s at =
       let was = on s at in
@@ -244,8 +246,8 @@ module _ (choice : Unread) (defined : List (List ℕ)) (rules : List Rule) where
       (now.0, (now.1.0, λ end runs. was.1.1 end (now.1.1 end runs)))
 
   pub comes_to : (first r : Reached) (from : ℕ) (applied : Applied) → Coming first from r
-      → ((s : Chained) → IsAt choice r s → Steps choice defined rules r.done s (Ended applied))
-      → (s : Chained) → IsAt choice first s → (last : Chained) × (Runs defined from (drop from rules) s (Done last) × AnswersState choice applied last)
+      → ((s : Chained) → IsAt choice r s → Steps tidy choice defined rules r.done s (Ended applied))
+      → (s : Chained) → IsAt choice first s → (last : Chained) × (Runs tidy defined from (drop from rules) s (Done last) × AnswersState choice applied last)
   comes_to first r from applied on step s at =
       let was = on s at in
       let now = step was.0 was.1.0 in
@@ -254,62 +256,62 @@ module _ (choice : Unread) (defined : List (List ℕ)) (rules : List Rule) where
   pub comes_out : (first r : Reached) (from : ℕ) (applied : Applied) → Coming first from r → length rules ≤ r.done
       → ((unread : Unread) (s : Chained) → AreFindingsOf r.findings s → r.bytes.items ≡ s.page.bytes → told_notes unread s ≡ r.skipped
       → AnswersState unread applied s)
-      → (s : Chained) → IsAt choice first s → (last : Chained) × (Runs defined from (drop from rules) s (Done last) × AnswersState choice applied last)
+      → (s : Chained) → IsAt choice first s → (last : Chained) × (Runs tidy defined from (drop from rules) s (Done last) × AnswersState choice applied last)
   comes_out first r from applied on all answers s at =
       let was = on s at in (
         was.0,
         (
-          was.1.1 (Done was.0) (none_left defined rules r.done was.0 all),
+          was.1.1 (Done was.0) (none_left tidy defined rules r.done was.0 all),
           answers choice was.0 was.1.0.findings was.1.0.bytes (told_at_first choice r was.0 was.1.0),
         ),
       )
 
   pub comes_short : (first r : Reached) (from : ℕ) (fault : FileFault) → Coming first from r
-      → (fault ≡ NoMemory) ⊎ ((s : Chained) → IsAt choice r s → Runs defined r.done (drop r.done rules) s (Refused fault))
-      → (fault ≡ NoMemory) ⊎ ((s : Chained) → IsAt choice first s → Runs defined from (drop from rules) s (Refused fault))
+      → (fault ≡ NoMemory) ⊎ ((s : Chained) → IsAt choice r s → Runs tidy defined r.done (drop r.done rules) s (Refused fault))
+      → (fault ≡ NoMemory) ⊎ ((s : Chained) → IsAt choice first s → Runs tidy defined from (drop from rules) s (Refused fault))
   comes_short first r from fault on (inl none) = inl none
   comes_short first r from fault on (inr is) = inr (λ s at. let was = on s at in was.1.1 (Refused fault) (is was.0 was.1.0))
 
-  pub seen_fault : (r : Reached) (fault : FileFault) → Refusing defined rules r.done r.file r.next r.findings fault
-      → (fault ≡ NoMemory) ⊎ ((s : Chained) → IsAt choice r s → Runs defined r.done (drop r.done rules) s (Refused fault))
+  pub seen_fault : (r : Reached) (fault : FileFault) → Refusing tidy defined rules r.done r.file r.next r.findings fault
+      → (fault ≡ NoMemory) ⊎ ((s : Chained) → IsAt choice r s → Runs tidy defined r.done (drop r.done rules) s (Refused fault))
   seen_fault r fault (inl none) = inl none
   seen_fault r fault (inr is) = inr (λ s at. is s at.findings at.at)
 
 -- ---- the whole
 
 -- a text that is read ends so, whichever notes are told
-by_chain : (choice : Unread) (rules : List Rule) (defined : List (List ℕ)) (bytes : List ℕ) (end : Outcome) → Chain rules defined bytes end
-    → EndsBy choice rules defined bytes end
-by_chain unread.All rules defined bytes end chain = chain
-by_chain unread.Needed rules defined bytes end chain = inl chain
-by_chain unread.None rules defined bytes end chain = inl chain
+by_chain : (tidy : Bool) (choice : Unread) (rules : List Rule) (defined : List (List ℕ)) (bytes : List ℕ) (end : Outcome) → Chain tidy rules defined bytes end
+    → EndsBy tidy choice rules defined bytes end
+by_chain tidy unread.All rules defined bytes end chain = chain
+by_chain tidy unread.Needed rules defined bytes end chain = inl chain
+by_chain tidy unread.None rules defined bytes end chain = inl chain
 
 -- and so does one that is passed over
-pub by_passing : (choice : Unread) (rules : List Rule) (defined : List (List ℕ)) (bytes : List ℕ) (s : Chained) → (choice ≡ unread.All → ⊥)
-    → All (LacksWord bytes) rules → IsUntouched bytes s → EndsBy choice rules defined bytes (Done s)
-by_passing unread.All rules defined bytes s other lack is = absurd (other refl)
-by_passing unread.Needed rules defined bytes s other lack is = inr (lack, is)
-by_passing unread.None rules defined bytes s other lack is = inr (lack, is)
+pub by_passing : (tidy : Bool) (choice : Unread) (rules : List Rule) (defined : List (List ℕ)) (bytes : List ℕ) (s : Chained) → (choice ≡ unread.All → ⊥)
+    → All (LacksWord bytes) rules → IsUntouched bytes s → EndsBy tidy choice rules defined bytes (Done s)
+by_passing tidy unread.All rules defined bytes s other lack is = absurd (other refl)
+by_passing tidy unread.Needed rules defined bytes s other lack is = inr (lack, is)
+by_passing tidy unread.None rules defined bytes s other lack is = inr (lack, is)
 
-module _ (choice : Unread) (rules : List Rule) (defined : List (List ℕ)) (bytes : List ℕ) (r : Reached) (cut : Lexes bytes r.file.pieces)
+module _ (tidy : Bool) (choice : Unread) (rules : List Rule) (defined : List (List ℕ)) (bytes : List ℕ) (r : Reached) (cut : Lexes bytes r.file.pieces)
     (reads : Reads r.file.pieces r.file.items)
     (at : IsAt choice r (first_state r.file.pieces reads.0 r.file.items)) where
   pub chain_done : (applied : Applied)
-      → ((s : Chained) → IsAt choice r s → (last : Chained) × (Runs defined 0 rules s (Done last) × AnswersState choice applied last))
-      → (last : Chained) × (EndsBy choice rules defined bytes (Done last) × AnswersState choice applied last)
+      → ((s : Chained) → IsAt choice r s → (last : Chained) × (Runs tidy defined 0 rules s (Done last) × AnswersState choice applied last))
+      → (last : Chained) × (EndsBy tidy choice rules defined bytes (Done last) × AnswersState choice applied last)
   chain_done applied done =
       let end = done (first_state r.file.pieces reads.0 r.file.items) at in (
         end.0,
         (
-          by_chain choice rules defined bytes (Done end.0)
+          by_chain tidy choice rules defined bytes (Done end.0)
               (record { pieces = r.file.pieces; cut = cut; items = r.file.items; reads = reads; runs = end.1.0 }),
           end.1.1,
         ),
       )
 
-  pub chain_refused : (fault : FileFault) → (fault ≡ NoMemory) ⊎ ((s : Chained) → IsAt choice r s → Runs defined 0 rules s (Refused fault))
-      → (fault ≡ NoMemory) ⊎ EndsBy choice rules defined bytes (Refused fault)
+  pub chain_refused : (fault : FileFault) → (fault ≡ NoMemory) ⊎ ((s : Chained) → IsAt choice r s → Runs tidy defined 0 rules s (Refused fault))
+      → (fault ≡ NoMemory) ⊎ EndsBy tidy choice rules defined bytes (Refused fault)
   chain_refused fault (inl none) = inl none
   chain_refused fault (inr is) =
-      inr (by_chain choice rules defined bytes (Refused fault)
+      inr (by_chain tidy choice rules defined bytes (Refused fault)
       (record { pieces = r.file.pieces; cut = cut; items = r.file.items; reads = reads; runs = is (first_state r.file.pieces reads.0 r.file.items) at }))

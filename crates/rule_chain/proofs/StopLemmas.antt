@@ -23,9 +23,9 @@ zip_append R [] xs' (y ∷ ys) ys' one two = absurd one
 zip_append R (x ∷ xs) xs' [] ys' one two = absurd one
 zip_append R (x ∷ xs) xs' (y ∷ ys) ys' one two = (one.0, zip_append R xs xs' ys ys' one.1 two)
 
-module _ (defined : List (List ℕ)) (rules : List Rule) where
+module _ (tidy : Bool) (defined : List (List ℕ)) (rules : List Rule) where
   -- with no rule, the state stays
-  pub stays : (from : ℕ) (s : Chained) (findings : FileState) → AreFindingsOf findings s → LeadsOn defined rules from s from findings None []
+  pub stays : (from : ℕ) (s : Chained) (findings : FileState) → AreFindingsOf findings s → LeadsOn tidy defined rules from s from findings None []
   stays from s findings are = record {
     state = s;
     findings_are = are;
@@ -38,12 +38,12 @@ module _ (defined : List (List ℕ)) (rules : List Rule) where
     ran_rules = [];
     numbered = tt;
     needed = λ i. record s.needed { ran = sym (append-nil s.needed.ran) i };
-    back = λ next end may runs. subst (λ (x : Chained). Runs defined from (drop from rules) x end) may runs;
+    back = λ next end may runs. subst (λ (x : Chained). Runs tidy defined from (drop from rules) x end) may runs;
   }
 
   -- the state is still just after the reading
   pub still : (from mid : ℕ) (s : Chained) (findings : FileState) (ran : List ℕ) (file : FileItems) (next : ℕ) → IsAtReading file next s
-      → (on : LeadsOn defined rules from s mid findings None ran) → IsAtReading file next on.state
+      → (on : LeadsOn tidy defined rules from s mid findings None ran) → IsAtReading file next on.state
   still from mid s findings ran file next at on = record {
     page = on.page ∙ at.page;
     pieces = on.pieces ∙ at.pieces;
@@ -51,13 +51,14 @@ module _ (defined : List (List ℕ)) (rules : List Rule) where
   }
 
   -- an end that follows from the later state follows from the first, too
-  pub back_to : (from mid : ℕ) (s : Chained) (findings : FileState) (ran : List ℕ) (on : LeadsOn defined rules from s mid findings None ran) (end : Outcome)
-      → Runs defined mid (drop mid rules) on.state end → Runs defined from (drop from rules) s end
+  pub back_to : (from mid : ℕ) (s : Chained) (findings : FileState) (ran : List ℕ)
+      (on : LeadsOn tidy defined rules from s mid findings None ran) (end : Outcome)
+      → Runs tidy defined mid (drop mid rules) on.state end → Runs tidy defined from (drop from rules) s end
   back_to from mid s findings ran on end runs = on.back on.state end refl runs
 
   pub then : (from mid done : ℕ) (s : Chained) (findings later : FileState) (text : Option NewText) (ran more_ran : List ℕ)
-      (on : LeadsOn defined rules from s mid findings None ran)
-      → LeadsOn defined rules mid on.state done later text more_ran → LeadsOn defined rules from s done later text (ran ++ more_ran)
+      (on : LeadsOn tidy defined rules from s mid findings None ran)
+      → LeadsOn tidy defined rules mid on.state done later text more_ran → LeadsOn tidy defined rules from s done later text (ran ++ more_ran)
   then from mid done s findings later text ran more_ran on more = record {
     state = more.state;
     findings_are = more.findings_are;
@@ -77,24 +78,24 @@ module _ (defined : List (List ℕ)) (rules : List Rule) where
   -- from each state that the code's data describes, to such a state
   abbrev pub Leading : ℕ → ℕ → FileItems → ℕ → FileState → FileState → Option NewText → List ℕ → Type 0
   Leading from done file next findings later text ran = (s : Chained) → AreFindingsOf findings s → IsAtReading file next s
-      → LeadsOn defined rules from s done later text ran
+      → LeadsOn tidy defined rules from s done later text ran
 
   abbrev pub Refusing : ℕ → FileItems → ℕ → FileState → FileFault → Type 0
   Refusing from file next findings fault = (fault ≡ NoMemory) ⊎ ((s : Chained) → AreFindingsOf findings s → IsAtReading file next s
-      → Runs defined from (drop from rules) s (Refused fault))
+      → Runs tidy defined from (drop from rules) s (Refused fault))
 
   pub goes_on : (from mid done : ℕ) (file : FileItems) (next : ℕ) (first findings later : FileState) (text : Option NewText) (ran more_ran : List ℕ)
       → Leading from mid file next first findings None ran → Leading mid done file next findings later text more_ran
       → Leading from done file next first later text (ran ++ more_ran)
   goes_on from mid done file next first findings later text ran more_ran on more s are at =
-      let was : LeadsOn defined rules from s mid findings None ran = on s are at in
+      let was : LeadsOn tidy defined rules from s mid findings None ran = on s are at in
       then from mid done s findings later text ran more_ran was (more was.state was.findings_are (still from mid s findings ran file next at was))
 
   pub stops_at : (from mid : ℕ) (file : FileItems) (next : ℕ) (first findings : FileState) (ran : List ℕ) (fault : FileFault)
       → Leading from mid file next first findings None ran → Refusing mid file next findings fault → Refusing from file next first fault
   stops_at from mid file next first findings ran fault on (inl none) = inl none
   stops_at from mid file next first findings ran fault on (inr is) = inr (λ s are at.
-      let was : LeadsOn defined rules from s mid findings None ran = on s are at in
+      let was : LeadsOn tidy defined rules from s mid findings None ran = on s are at in
       back_to from mid s findings ran was (Refused fault) (is was.state was.findings_are (still from mid s findings ran file next at was)))
 
   -- one more rule

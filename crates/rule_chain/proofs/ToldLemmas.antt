@@ -11,7 +11,8 @@ use Rattle.rule_chain.specs.declared.rule_run.state.SkipNote.{SkipNote}
 use Rattle.rule_chain.specs.RuleRun.Notes.{item_token, notes_from, notes_on}
 use Rattle.rule_chain.specs.RuleRun.Needed.{may_match, notes_where}
 use Rattle.rule_chain.specs.RuleRun.States.{Chained, first_state, told_notes, needed_notes}
-use Rattle.rule_chain.specs.RuleRun.OneRule.{MayRead, Leads, state_after}
+use Rattle.rule_chain.specs.RuleRun.OneRule.{MayRead, state_after, state_with}
+use Rattle.rule_chain.specs.RuleRun.Tidied.{LeadsBy}
 use Rattle.rule_chain.specs.Chain.{Done, Runs, Chain, is_followed}
 use Rattle.rule_chain.specs.Told.{AreSome}
 use Rattle.rule_chain.specs.Told.AreSome.{nothing, with_note, without_note}
@@ -61,21 +62,25 @@ read_keeps : (b : Bool) (left next : Chained) → Kept left → MayRead b left n
 read_keeps false left next k same = subst Kept (sym same) k
 read_keeps true left next k reads = subst Kept (sym reads.is) (record { before = left.skipped; are = refl; some = needed_some left k })
 
-leads_keep : (defined : List (List ℕ)) (number : ℕ) (rule : Rule) (followed : Bool) (s next : Chained) → Kept s → Leads defined number rule followed s next
-    → Kept next
-leads_keep defined number rule followed s next k leads =
+leads_keep : (tidy : Bool) (defined : List (List ℕ)) (number : ℕ) (rule : Rule) (followed : Bool) (s next : Chained) → Kept s
+    → LeadsBy tidy defined number rule followed s next → Kept next
+leads_keep true defined number rule followed s next k leads =
+    read_keeps _ (state_with defined number rule s leads.page) next (record { before = k.before; are = k.are; some = k.some }) leads.reads
+leads_keep false defined number rule followed s next k leads =
     read_keeps _ (state_after defined number rule s leads.edits) next (record { before = k.before; are = k.are; some = k.some }) leads.reads
 
-runs_keep : (defined : List (List ℕ)) (number : ℕ) (rules : List Rule) (s last : Chained) → Kept s → Runs defined number rules s (Done last) → Kept last
-runs_keep defined number [] s last k is = let same : s ≡ last = cc in subst Kept same k
-runs_keep defined number (rule ∷ rules) s last k (inl fault) = let e = fault.1.1 in absurd (cc)
-runs_keep defined number (rule ∷ rules) s last k (inr on) =
-    runs_keep defined (suc number) rules on.0 last (leads_keep defined number rule (is_followed rules) s on.0 k on.1.0) on.1.1
+runs_keep : (tidy : Bool) (defined : List (List ℕ)) (number : ℕ) (rules : List Rule) (s last : Chained) → Kept s
+    → Runs tidy defined number rules s (Done last) → Kept last
+runs_keep tidy defined number [] s last k is = let same : s ≡ last = cc in subst Kept same k
+runs_keep tidy defined number (rule ∷ rules) s last k (inl fault) = let e = fault.1.1 in absurd (cc)
+runs_keep tidy defined number (rule ∷ rules) s last k (inr on) =
+    runs_keep tidy defined (suc number) rules on.0 last (leads_keep tidy defined number rule (is_followed rules) s on.0 k on.1.0) on.1.1
 
-pub chain_some : (choice : Unread) (rules : List Rule) (defined : List (List ℕ)) (bytes : List ℕ) (s : Chained) → Chain rules defined bytes (Done s)
+pub chain_some : (tidy : Bool) (choice : Unread) (rules : List Rule) (defined : List (List ℕ)) (bytes : List ℕ) (s : Chained)
+    → Chain tidy rules defined bytes (Done s)
     → AreSome (told_notes choice s) s.skipped
-chain_some unread.All rules defined bytes s chain = all_told s.skipped
-chain_some unread.Needed rules defined bytes s chain =
-    needed_some s (runs_keep defined 0 rules (first_state chain.pieces chain.reads.0 chain.items) s
+chain_some tidy unread.All rules defined bytes s chain = all_told s.skipped
+chain_some tidy unread.Needed rules defined bytes s chain =
+    needed_some s (runs_keep tidy defined 0 rules (first_state chain.pieces chain.reads.0 chain.items) s
     (record { before = []; are = refl; some = nothing }) chain.runs)
-chain_some unread.None rules defined bytes s chain = none_told s.skipped
+chain_some tidy unread.None rules defined bytes s chain = none_told s.skipped

@@ -1,5 +1,5 @@
 -- Texts that needn't be read, since each rule needs a word that stands nowhere in them.
-use Rattle.std.specs.Prelude.{ℕ, ◌≡◌, ◌⊎◌, true, All, List, [], ◌++◌}
+use Rattle.std.specs.Prelude.{ℕ, ◌≡◌, ◌⊎◌, Bool, true, All, List, [], ◌++◌}
 use Rattle.run_choices.specs.declared.unread.Unread.{Unread}
 use Rattle.run_choices.specs.declared.unread.Unread.TheVariants as unread
 use Rattle.smpl_patch.specs.declared.rule.Rule.{Rule}
@@ -31,10 +31,10 @@ IsPassed rules bytes (Refused fault) = ⊥
 
 -- How the rules over a text end. If not all notes are told, the text may be passed over; law `unread_changes_notes_alone` says
 -- that this is how the chain ends.
-abbrev pub EndsBy : Unread → List Rule → List (List ℕ) → List ℕ → Outcome → Type 0
-EndsBy unread.All rules defined bytes end = Chain rules defined bytes end
-EndsBy unread.Needed rules defined bytes end = Chain rules defined bytes end ⊎ IsPassed rules bytes end
-EndsBy unread.None rules defined bytes end = Chain rules defined bytes end ⊎ IsPassed rules bytes end
+abbrev pub EndsBy : (tidy : Bool) → Unread → List Rule → List (List ℕ) → List ℕ → Outcome → Type 0
+EndsBy tidy unread.All rules defined bytes end = Chain tidy rules defined bytes end
+EndsBy tidy unread.Needed rules defined bytes end = Chain tidy rules defined bytes end ⊎ IsPassed rules bytes end
+EndsBy tidy unread.None rules defined bytes end = Chain tidy rules defined bytes end ⊎ IsPassed rules bytes end
 
 -- ---- ends that differ only in notes
 

@@ -1,5 +1,5 @@
 -- What the chain returns for a file.
-use Rattle.std.specs.Prelude.{◌≡◌, ◌⊎◌, ℕ, List, map, Result, Ok, Err}
+use Rattle.std.specs.Prelude.{◌≡◌, ◌⊎◌, ℕ, Bool, List, map, Result, Ok, Err}
 use Rattle.smpl_patch.specs.declared.rule.Rule.{Rule}
 use Rattle.env_parts.specs.Parts.{bare_env}
 use Rattle.rule_chain.specs.RuleWitnesses.Bare.{bare_witness}
@@ -19,7 +19,7 @@ pub record AnswersState (choice : Unread) (applied : Applied) (s : Chained) : Ty
   pub envs : map bare_env applied.envs ≡ map (λ c. c.env) s.file_envs
 
 -- The rules end with a last state, which is returned; or they end at the first fault, which is returned; or memory ran out.
-abbrev pub IsResult : Unread → List Rule → List (List ℕ) → List ℕ → Result Applied FileFault → Type 0
-IsResult choice rules defined bytes (Ok applied) =
-    (s : Chained) × (EndsBy choice rules defined bytes (Done s) × AnswersState choice applied s)
-IsResult choice rules defined bytes (Err fault) = (fault ≡ NoMemory) ⊎ EndsBy choice rules defined bytes (Refused fault)
+abbrev pub IsResult : (tidy : Bool) → Unread → List Rule → List (List ℕ) → List ℕ → Result Applied FileFault → Type 0
+IsResult tidy choice rules defined bytes (Ok applied) =
+    (s : Chained) × (EndsBy tidy choice rules defined bytes (Done s) × AnswersState choice applied s)
+IsResult tidy choice rules defined bytes (Err fault) = (fault ≡ NoMemory) ⊎ EndsBy tidy choice rules defined bytes (Refused fault)

@@ -3,3 +3,4 @@
 pub mod Nodes
 pub mod Pages
 pub mod Faults
+pub mod Tidied

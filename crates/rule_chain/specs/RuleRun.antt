@@ -4,4 +4,5 @@ pub mod Notes
 pub mod Needed
 pub mod States
 pub mod OneRule
+pub mod Tidied
 pub mod Outcomes

@@ -36,7 +36,7 @@ ran_number runs number = cond runs (number ∷ []) []
 -- Some rules, from one number up to another, lead to a state of the same reading with these findings and this page; those with
 -- the numbers `ran` ran. Whatever the remaining rules lead to, from there or from the new text once it is read, all of them
 -- lead to.
-pub record LeadsOn (defined : List (List ℕ)) (rules : List Rule) (from : ℕ) (s : Chained) (done : ℕ) (findings : FileState)
+pub record LeadsOn (tidy : Bool) (defined : List (List ℕ)) (rules : List Rule) (from : ℕ) (s : Chained) (done : ℕ) (findings : FileState)
     (text : Option NewText) (ran : List ℕ) : Type 0 where
   pub state : Chained
   pub findings_are : AreFindingsOf findings state
@@ -50,7 +50,7 @@ pub record LeadsOn (defined : List (List ℕ)) (rules : List Rule) (from : ℕ) 
   pub numbered : AreNumbered rules ran_rules ran
   pub needed : state.needed ≡ record s.needed { ran = s.needed.ran ++ ran_rules }
   pub back : (next : Chained) (end : Outcome) → MayRead (is_some text && is_followed (drop done rules)) state next
-      → Runs defined done (drop done rules) next end → Runs defined from (drop from rules) s end
+      → Runs tidy defined done (drop done rules) next end → Runs tidy defined from (drop from rules) s end
 
 -- The notes that are told before rules run over a reading: all notes as it is read, and those on needed items when it is known
 -- which rules ran over it.
@@ -103,11 +103,11 @@ ComesOf choice rules findings text reading loaded skipped done st =
 
 -- The rules from a number on lead from a state to an end, which is returned; or they lead to the point that is reached, and
 -- whatever the remaining rules lead to from there, all of them lead to.
-abbrev pub Steps : Unread → List (List ℕ) → List Rule → ℕ → Chained → Step → Type 0
-Steps choice defined rules from s (Ended applied) =
-    (last : Chained) × (Runs defined from (drop from rules) s (Done last) × AnswersState choice applied last)
-Steps choice defined rules from s (On r) = (next : Chained) × (IsAt choice r next
-    × ((end : Outcome) → Runs defined r.done (drop r.done rules) next end → Runs defined from (drop from rules) s end))
+abbrev pub Steps : (tidy : Bool) → Unread → List (List ℕ) → List Rule → ℕ → Chained → Step → Type 0
+Steps tidy choice defined rules from s (Ended applied) =
+    (last : Chained) × (Runs tidy defined from (drop from rules) s (Done last) × AnswersState choice applied last)
+Steps tidy choice defined rules from s (On r) = (next : Chained) × (IsAt choice r next
+    × ((end : Outcome) → Runs tidy defined r.done (drop r.done rules) next end → Runs tidy defined from (drop from rules) s end))
 
 -- the point that is reached is further on than this number of rules and of readings
 abbrev pub IsFurther : ℕ → ℕ → ℕ → Step → Type 0

@@ -119,10 +119,11 @@ fn next_reading<R: Threads + Sync, G: Gate>(
 ) -> Result<Step, FileFault>
     requires within { reached.done ≤ length rules.now.patch.now.rules }
     requires reading { reached.reading ≤ reached.done }
-    ensures step { IfOk result (λ st. (s : Chained) → IsAt rules.now.unread reached s → Steps rules.now.unread rules.now.defined.now rules.now.patch.now.rules reached.done s st) }
+    ensures step { IfOk result (λ st. (s : Chained) → IsAt rules.now.unread reached s →
+        Steps rules.now.tidy rules.now.unread rules.now.defined.now rules.now.patch.now.rules reached.done s st) }
     ensures further { IfOk result (IsFurther reached.done (length rules.now.patch.now.rules) reached.reading) }
     ensures fault { IfErr result (λ f. (f ≡ fault.NoMemory) ⊎ ((s : Chained) → IsAt rules.now.unread reached s
-        → Runs rules.now.defined.now reached.done (drop reached.done rules.now.patch.now.rules) s (Refused f))) }
+        → Runs rules.now.tidy rules.now.defined.now reached.done (drop reached.done rules.now.patch.now.rules) s (Refused f))) }
 {
     if reached.next > MOST_IDS {
         return Err(FileFault::NoMemory);
@@ -173,9 +174,9 @@ fn over_readings<R: Threads + Sync, G: Gate>(
     requires done { reached.done ≡ 0 }
     requires reading { reached.reading ≡ 0 }
     ensures done { IfOk result (λ applied. (s : Chained) → IsAt rules.now.unread reached s
-        → (last : Chained) × (Runs rules.now.defined.now 0 rules.now.patch.now.rules s (Done last) × AnswersState rules.now.unread applied last)) }
+        → (last : Chained) × (Runs rules.now.tidy rules.now.defined.now 0 rules.now.patch.now.rules s (Done last) × AnswersState rules.now.unread applied last)) }
     ensures fault { IfErr result (λ f. (f ≡ fault.NoMemory) ⊎ ((s : Chained) → IsAt rules.now.unread reached s
-        → Runs rules.now.defined.now 0 rules.now.patch.now.rules s (Refused f))) }
+        → Runs rules.now.tidy rules.now.defined.now 0 rules.now.patch.now.rules s (Refused f))) }
 {
     let count = rules.count();
     let mut reached = reached;
@@ -207,17 +208,19 @@ fn over_readings<R: Threads + Sync, G: Gate>(
 /// - `TooManyWitnesses`: in some item, under some choice, the witnesses have more than 1,000,000 touches and binds.
 /// - `TooManyEnvironments`: more than 10,000 environments result.
 /// - `Conflict`: two edits clash; the id is that of the first token at which they do.
+/// - `Body`: the text is tidied, none clash, and what stands in the place of a body is no list of statements; the id is that of
+///   the last token of such a body, the least.
 /// - `FileTooLong`: the new text has more than 16,777,216 bytes.
 /// - `NoMemory`: out of memory; or ids go beyond 2^62, a reading has 2^32 items or more, or the new text isn't cut into as many
 ///   tokens as it has ids.
 ///
 /// All but the last carry the number of the rule, from 0.
 ///
-/// Unless all items that can't be read are told of, a text may be passed over in which each rule lacks a word that it needs: it is
-/// neither cut nor read, and returned as it is. The chain would end so too (law `unread_changes_notes_alone`).
+/// Unless all items that can't be read are told of, a text may be passed over in which each rule lacks a word that it needs:
+/// it is neither cut nor read, and returned as it is. The chain would end so too (law `unread_changes_notes_alone`).
 ///
-/// Costs one [`crate::rule_run::run_rule`] per rule, one reading of the text at the start, and one after each rule that edits and
-/// is followed by another; unless all notes are told, searches of the text for at most eight words of each rule; and for
+/// Costs one [`crate::rule_run::run_rule`] per rule, one reading of the text at the start, and one after each rule that edits
+/// and is followed by another; unless all notes are told, searches of the text for at most eight words of each rule; and for
 /// notes on needed items one look at the tokens of each skipped item, and for each rule that ran one at each of its words.
 pub fn apply<R: Threads + Sync, G: Gate>(
     workers: &Workers<'_, R, G>,
@@ -225,7 +228,7 @@ pub fn apply<R: Threads + Sync, G: Gate>(
     bytes: Vec<u8>,
 ) -> Result<Applied, FileFault>
     requires short { length bytes.items ≤ most_bytes }
-    ensures result { IsResult rules.now.unread rules.now.patch.now.rules rules.now.defined.now bytes.items result }
+    ensures result { IsResult rules.now.tidy rules.now.unread rules.now.patch.now.rules rules.now.defined.now bytes.items result }
 {
     if is_passed(rules, bytes.as_slice()) {
         return Ok(untouched(workers.alloc, bytes)?);

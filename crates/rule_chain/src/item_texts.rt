@@ -61,7 +61,8 @@ fn add_piece(
     texts: &mut TextSet,
     number: usize,
 ) -> Result<(), NoMemory>
-    ensures { OnOk result ((w : List ℕ) → has_name texts.new w ≡ (has_name texts.old w || needed.is_word_at lexed.now w number)) }
+    ensures { OnOk result ((w : List ℕ) → has_name texts.new w
+        ≡ (has_name texts.old w || needed.is_word_at lexed.now w number)) }
 {
     if number >= lexed.count() {
         return Ok(());

@@ -1,8 +1,8 @@
 //! Applies the rules of a patch to the text of a file, one after another.
 //!
-//! [`apply`] runs the whole chain of [`PatchRules`] over one text. It returns the new text, the witnesses, the skipped items that
-//! are told of and the environments, or the first fault. A text in which each rule lacks a word may be passed over. The prepared form that rules are run from is made once per patch, by `prepare` of
-//! rule_envs.
+//! [`apply`] runs the whole chain of [`PatchRules`] over one text. It returns the new text, plain or tidied, the witnesses, the
+//! skipped items that are told of and the environments, or the first fault. A text in which each rule lacks a word may be passed
+//! over. The prepared form that rules are run from is made once per patch, by `prepare` of rule_envs.
 //!
 //! ```text
 //!       text ─► tokens, items ─► rule 0 ─► rule 1 ─► .. ─► text, witnesses, skipped items, environments

@@ -1,5 +1,5 @@
 // Laws of the notes on items that can't be read.
-ghost use Rattle.std.specs.Prelude.{◌≡◌, ◌↔◌, ℕ, List, true};
+ghost use Rattle.std.specs.Prelude.{◌≡◌, ◌↔◌, ℕ, Bool, List, true};
 ghost use Rattle.cpp_lines.specs.declared.span.ItemSpan.{ItemSpan};
 ghost use Rattle.c_file.specs.File.{FileItems};
 ghost use Rattle.smpl_patch.specs.declared.rule.Rule.{Rule};
@@ -17,9 +17,9 @@ pub fn needed_words_are_held()
         ↔ ((w : List ℕ) → needs_word rule.tokens (formula_of rule) w ≡ true → holds_word file span w ≡ true) }
 {}
 
-/// Whichever notes are told of a text that is read, they are some of the notes on all items that can't be read, in their order.
-/// Does nothing.
+/// Whether or not texts are tidied: whichever notes are told of a text that is read, they are some of the notes on all items
+/// that can't be read, in their order. Does nothing.
 pub fn told_notes_are_some()
-    ensures { (choice : Unread) (rules : List Rule) (defined : List (List ℕ)) (bytes : List ℕ) (s : Chained) →
-        Chain rules defined bytes (Done s) → AreSome (told_notes choice s) s.skipped }
+    ensures { (tidy : Bool) (choice : Unread) (rules : List Rule) (defined : List (List ℕ)) (bytes : List ℕ) (s : Chained) →
+        Chain tidy rules defined bytes (Done s) → AreSome (told_notes choice s) s.skipped }
 {}

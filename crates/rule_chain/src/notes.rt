@@ -176,7 +176,8 @@ fn with_needed(
     reading: &NotedReading<'_>,
     ran: &[u32],
 ) -> Result<Items<SkipNote>, NoMemory>
-    ensures { IfOk result (λ now. now ≡ skipped ++ kept_on words.now ran.now reading.now.loaded reading.now.number reading.now.file.now) }
+    ensures { IfOk result (λ now. now ≡ skipped
+        ++ kept_on words.now ran.now reading.now.loaded reading.now.number reading.now.file.now) }
 {
     let file = reading.file;
     let items = file.items();

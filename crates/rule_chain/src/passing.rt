@@ -21,8 +21,8 @@ use std::alloc::Global;
 /// The most words of a rule that a text is searched for.
 const MOST_SEARCHES: usize = 8;
 
-/// Whether one of the first eight words is found to stand nowhere in the bytes. Searches them once per word, up to the first that
-/// is absent.
+/// Whether one of the first eight words is found to stand nowhere in the bytes. Searches them once per word, up to the first
+/// that is absent.
 fn lacks_one(words: &[Text], bytes: &[u8]) -> bool
     ensures { result ≡ true → LacksOne bytes.now words.now }
 {

@@ -21,6 +21,8 @@ pub struct PatchRules<'p> {
     pub prepared: &'p Prepared,
     /// The virtual names that are defined.
     pub defined: &'p [Text],
+    /// Whether the new texts are tidied.
+    pub tidy: bool,
     /// Which of the items that can't be read are told of. Unless all are, a text in which each rule lacks a word may be passed over.
     pub unread: Unread,
     /// What [`words_of_rules`](crate::words_of_rules) returned for these.
@@ -43,6 +45,8 @@ pub struct ReadyRule<'p> {
     pub prepared: &'p PreparedRule,
     /// The virtual names that are defined.
     pub defined: &'p [Text],
+    /// Whether the new text is tidied.
+    pub tidy: bool,
     pub ghost prepared_is: { IsPrepared rule.now prepared.now } by { is_prepared-prop formula.the_row.coded rule.now prepared.now },
     pub ghost may: { MayRun rule.now prepared.now } by { may_run-prop rule.now prepared.now },
 }
@@ -61,6 +65,7 @@ impl<'p> PatchRules<'p> {
         ensures number { result.number ≡ number }
         ensures rule { result.rule.now ≡ slice_index_or self.now.patch.now.rules number result.rule.now }
         ensures defined { result.defined.now ≡ self.now.defined.now }
+        ensures tidy { result.tidy ≡ self.now.tidy }
     {
         let rules = self.patch.rules.as_slice();
         let prepared = self.prepared.rules.as_slice();
@@ -69,6 +74,7 @@ impl<'p> PatchRules<'p> {
             rule: &rules[number],
             prepared: &prepared[number],
             defined: self.defined,
+            tidy: self.tidy,
         }
     }
 }

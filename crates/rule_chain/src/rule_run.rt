@@ -1,4 +1,5 @@
-//! Runs one rule of a patch over one reading of a file: `match_rule` of rule_matches, then `text_after_edits` of rule_edits.
+//! Runs one rule of a patch over one reading of a file: `match_rule` of rule_matches, then
+//! `text_after_edits` or `tidied_text_after_edits` of rule_edits.
 //!
 //! [`run_rule`] takes what the rules before it left, and returns what this one leaves, or the first fault that it meets. If the
 //! rule edits the text, reading it again is left to the chain of rules.

@@ -51,10 +51,10 @@ fn run_at<R: Threads + Sync, G: Gate>(
     requires within { number < length rules.now.patch.now.rules }
     requires items { graphs.old.items ≡ reading.now.file.now.items }
     ensures outcome { IfOk result (λ w. (s : Chained) → AreFindingsOf findings s → IsAtReading reading.now.file.now reading.now.next s
-        → LeadsOn rules.now.defined.now rules.now.patch.now.rules number s (number + 1) w.findings w.text (ran_number w.ran number)) }
+        → LeadsOn rules.now.tidy rules.now.defined.now rules.now.patch.now.rules number s (number + 1) w.findings w.text (ran_number w.ran number)) }
     ensures fault { IfErr result (λ f. (f ≡ fault.NoMemory) ⊎ ((s : Chained) → AreFindingsOf findings s
         → IsAtReading reading.now.file.now reading.now.next s
-        → Runs rules.now.defined.now number (drop number rules.now.patch.now.rules) s (Refused f))) }
+        → Runs rules.now.tidy rules.now.defined.now number (drop number rules.now.patch.now.rules) s (Refused f))) }
     ensures items { graphs.new.items ≡ graphs.old.items }
 {
     let ready = rules.at(number);
@@ -71,13 +71,13 @@ pub fn over_reading<R: Threads + Sync, G: Gate>(
 ) -> Result<ReadingEnd, FileFault>
     requires within { from ≤ length rules.now.patch.now.rules }
     ensures stopped { IfOk result (λ st. (s : Chained) → AreFindingsOf findings s → IsAtReading reading.now.file.now reading.now.next s
-        → LeadsOn rules.now.defined.now rules.now.patch.now.rules from s st.done st.findings st.text st.ran) }
+        → LeadsOn rules.now.tidy rules.now.defined.now rules.now.patch.now.rules from s st.done st.findings st.text st.ran) }
     ensures within { IfOk result (λ st. st.done ≤ length rules.now.patch.now.rules) }
     ensures last { IfOk result (λ st. st.text ≡ None → st.done ≡ length rules.now.patch.now.rules) }
     ensures on { IfOk result (λ st. is_some st.text ≡ true → from < st.done) }
     ensures fault { IfErr result (λ f. (f ≡ fault.NoMemory) ⊎ ((s : Chained) → AreFindingsOf findings s
         → IsAtReading reading.now.file.now reading.now.next s
-        → Runs rules.now.defined.now from (drop from rules.now.patch.now.rules) s (Refused f))) }
+        → Runs rules.now.tidy rules.now.defined.now from (drop from rules.now.patch.now.rules) s (Refused f))) }
 {
     let mut graphs = Graphs::new(workers.alloc, reading.file)?;
     let mut findings = findings;

@@ -44,7 +44,7 @@ use Rattle.rule_chain.proofs.EditLaws.ValueLemmas.{bare_alike, bare_bound, block
 
 -- ---- touches
 
-abbrev bare_touch : Touched → Touched
+abbrev pub bare_touch : Touched → Touched
 bare_touch t = record t { env = bare_env t.env }
 
 bare-Touch : (node atom : ℕ) (path : List ℕ) → bare_tree (Touch node atom path) ≡ Touch node atom path
@@ -77,7 +77,7 @@ each_tree : (item : ℕ) (ws : List Witness) → Each (Alike item) ws
 each_tree item [] = tt
 each_tree item (w ∷ ws) = (tree_alike item w, each_tree item ws)
 
-bare_touches : (ws : List RuleWitness) → touches (map bare_witness ws) ≡ map bare_touch (touches ws)
+pub bare_touches : (ws : List RuleWitness) → touches (map bare_witness ws) ≡ map bare_touch (touches ws)
 bare_touches [] = refl
 bare_touches (w ∷ ws) =
     (λ i. all_alike w.item w.forest (each_tree w.item w.forest) w.env i ++ bare_touches ws i) ∙ sym (map-append bare_touch (touches_of w) (touches ws))
@@ -127,13 +127,13 @@ module _ (decls : List VarDecl) (tokens : List PatToken) (env : Values) (files :
 -- ---- the edits of all
 
 module _ (rule : Rule) (items : List Item) (nodes : List ItemNodes) (pieces : List TextPiece) where
-  abbrev patterns : List Pattern
+  abbrev pub patterns : List Pattern
   patterns = patterns_body (body rule.body)
 
-  abbrev pairs_here : Touched → List Aligned
+  abbrev pub pairs_here : Touched → List Aligned
   pairs_here = pairs_at patterns rule.vars rule.tokens items nodes (ids_of pieces)
 
-  same_pairs : (t : Touched) → pairs_here (bare_touch t) ≡ pairs_here t
+  pub same_pairs : (t : Touched) → pairs_here (bare_touch t) ≡ pairs_here t
   same_pairs t = λ i. pairs_of (ids_of pieces)
       (option_and_then (λ p. option_and_then (λ k. option_and_then
       (λ tree. aligned_alike rule.vars rule.tokens (types_at nodes t.item) (total (bare_env t.env)) (total t.env) (bare_alike t.env) p

@@ -140,7 +140,10 @@ module _ (decls : List VarDecl) (env : Environment) where
   bare_term_chunk None = refl
   bare_term_chunk (Some t) = bare_chunk t
 
-  chunk : (t : Token) → chunk_of decls (bare_env env) t ≡ chunk_of decls env t
+  pub term_alike : (t : Token) → term decls (bare_env env) t.text ≡ option_map bare (term decls env t.text)
+  term_alike t = decl_term (declared_as decls t.text)
+
+  pub chunk : (t : Token) → chunk_of decls (bare_env env) t ≡ chunk_of decls env t
   chunk t =
       ap (λ (c : Chunk). if is_meta t.kind then c else record { text = t.text; first = Some t.text; last = Some t.text })
       (ap term_chunk (decl_term (declared_as decls t.text)) ∙ bare_term_chunk (term decls env t.text))

@@ -21,23 +21,23 @@ use Rattle.rule_chain.specs.RuleEdits.Pages.{page_of, page_after, old_page, is_e
 abbrev Below : ℕ → List ℕ → Type 0
 Below n ids = AllByRecursion (λ id. id < n) ids
 
-abbrev count : ℕ → List ℕ → ℕ
+abbrev pub count : ℕ → List ℕ → ℕ
 count next ids = length (filter (λ id. not (nat_lt id next)) ids)
 
 -- ---- the old parts
 
-abbrev OneBelow : ℕ → Option ℕ → PieceKind → Type 0
+abbrev pub OneBelow : ℕ → Option ℕ → PieceKind → Type 0
 OneBelow next None kind = Unit {0}
 OneBelow next (Some number) (Word kind id) = id < next
 OneBelow next (Some number) Blank = Unit {0}
 OneBelow next (Some number) Comment = Unit {0}
 OneBelow next (Some number) Line = Unit {0}
 
-abbrev OldBelow : ℕ → List Part → Type 0
+abbrev pub OldBelow : ℕ → List Part → Type 0
 OldBelow next [] = Unit {0}
 OldBelow next (p ∷ ps) = OneBelow next p.from p.piece.kind × OldBelow next ps
 
-old-append : (next : ℕ) (ps qs : List Part) → OldBelow next ps → OldBelow next qs → OldBelow next (ps ++ qs)
+pub old-append : (next : ℕ) (ps qs : List Part) → OldBelow next ps → OldBelow next qs → OldBelow next (ps ++ qs)
 old-append next [] qs h k = k
 old-append next (p ∷ ps) qs h k = (h.0, old-append next ps qs h.1 k)
 
@@ -45,11 +45,11 @@ old-new : (next : ℕ) (ps : List TextPiece) → OldBelow next (map new_part ps)
 old-new next [] = tt
 old-new next (p ∷ ps) = (tt, old-new next ps)
 
-old-added : (next : ℕ) (texts : List (List ℕ)) → OldBelow next (added texts)
+pub old-added : (next : ℕ) (texts : List (List ℕ)) → OldBelow next (added texts)
 old-added next [] = tt
 old-added next (text ∷ texts) = old-append next (new_parts text) (added texts) (old-new next (cut text)) (old-added next texts)
 
-old-kept : (next number : ℕ) (removed : Bool) (p : TextPiece) → OneBelow next (Some number) p.kind → OldBelow next (kept removed number p)
+pub old-kept : (next number : ℕ) (removed : Bool) (p : TextPiece) → OneBelow next (Some number) p.kind → OldBelow next (kept removed number p)
 old-kept next number true p h = tt
 old-kept next number false p h = (h, tt)
 
@@ -68,13 +68,13 @@ old-at next Blank edits token number p h = (h, tt)
 old-at next Comment edits token number p h = (h, tt)
 old-at next Line edits token number p h = (h, tt)
 
-one-below : (next number : ℕ) (kind : PieceKind) (ids : List ℕ) → All (λ id. id < next) (id_before kind ids) → OneBelow next (Some number) kind
+pub one-below : (next number : ℕ) (kind : PieceKind) (ids : List ℕ) → All (λ id. id < next) (id_before kind ids) → OneBelow next (Some number) kind
 one-below next number (Word k id) ids h = All-head (λ i. i < next) id ids h
 one-below next number Blank ids h = tt
 one-below next number Comment ids h = tt
 one-below next number Line ids h = tt
 
-rest-below : (next : ℕ) (kind : PieceKind) (ids : List ℕ) → All (λ id. id < next) (id_before kind ids) → All (λ id. id < next) ids
+pub rest-below : (next : ℕ) (kind : PieceKind) (ids : List ℕ) → All (λ id. id < next) (id_before kind ids) → All (λ id. id < next) ids
 rest-below next (Word k id) ids h = All-tail (λ i. i < next) id ids h
 rest-below next Blank ids h = h
 rest-below next Comment ids h = h
@@ -139,6 +139,12 @@ spaced-below next m left (p ∷ ps) le old =
     (sym (gap-ids left p.from p.piece.text (own_piece m p ∷ spaced (Some (left_of p)) (out.next_after p.from m p.piece.kind) ps)))
     (step next m p.from p.piece.kind ps (Some (left_of p)) le old.0 (λ k lt. spaced-below next k (Some (left_of p)) ps lt old.1))
 
+-- the ids of a text that parts make
+pub spaced_below : (next : ℕ) (parts : List Part) → OldBelow next parts
+    → All (λ id. id < next + count next (ids_of (spaced None next parts))) (ids_of (spaced None next parts))
+spaced_below next parts old = All-from_recursion (λ id. id < next + count next (ids_of (spaced None next parts))) (ids_of (spaced None next parts))
+    (spaced-below next next None parts (omega arith) old)
+
 -- ---- pages
 
 pub page_below : (next : ℕ) (pieces : List TextPiece) (edits : List Edit) → All (λ id. id < next) (ids_of pieces)
@@ -146,8 +152,7 @@ pub page_below : (next : ℕ) (pieces : List TextPiece) (edits : List Edit) → 
 page_below next pieces edits h =
     elim (is_edited edits) as (λ b. All (λ id. id < (cond b (page_of next (output_of pieces edits next)) (old_page next pieces)).next)
     (cond b (page_of next (output_of pieces edits next)) (old_page next pieces)).ids) [
-      | true ↦ All-from_recursion (λ id. id < next + count next (ids_of (output_of pieces edits next))) (ids_of (output_of pieces edits next))
-          (spaced-below next next None (placed edits 0 0 pieces) (omega arith) (old-placed next edits 0 0 pieces h))
+      | true ↦ spaced_below next (placed edits 0 0 pieces) (old-placed next edits 0 0 pieces h)
       | false ↦ h
     ]
 

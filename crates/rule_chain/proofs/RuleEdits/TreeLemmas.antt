@@ -28,7 +28,7 @@ no_tree : (fs : List Witness) → not (is_empty fs) ≡ false → fs ≡ []
 no_tree [] h = refl
 no_tree (f ∷ fs) h = absurd (cc)
 
-no_touches : (found : List RuleWitness) → list_any (λ w. not (is_empty w.forest)) found ≡ false → touches found ≡ []
+pub no_touches : (found : List RuleWitness) → list_any (λ w. not (is_empty w.forest)) found ≡ false → touches found ≡ []
 no_touches [] h = refl
 no_touches (w ∷ ws) h =
     ap (λ fs. flat_map (touches_in w.item w.env) fs ++ touches ws) (no_tree w.forest (or_no_left _ _ h)) ∙ no_touches ws (or_no_right _ _ h)

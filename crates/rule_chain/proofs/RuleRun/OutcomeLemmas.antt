@@ -1,5 +1,6 @@
 -- What a rule does, seen from a state whose terms have no ids.
-use Rattle.std.proofs.Common.{◌≡◌, ◌<◌, ◌≤◌, ◌⊎◌, inl, inr, ℕ, refl, sym, ap, subst, ◌∙◌, arith, Bool, true, false, not, Option, List, [], ◌∷◌, ◌++◌, length, map}
+use Rattle.std.proofs.Common.{◌≡◌, ◌<◌, ◌≤◌, ◌⊎◌, inl, inr, ℕ, refl, sym, ap, subst, ◌∙◌, arith, Bool, true, false, not, Option}
+use Rattle.std.proofs.Common.{List, [], ◌∷◌, ◌++◌, length, map}
 use Rattle.std.proofs.Math.Path.{subst₂, subst₃}
 use Rattle.std.proofs.lemmas.List.{map-append, length-map}
 use Rattle.smpl_patch.specs.declared.rule.Rule.{Rule}
@@ -7,8 +8,11 @@ use Rattle.smpl_patch.specs.declared.witness.RuleWitness.{RuleWitness}
 use Rattle.cpp_lines.specs.declared.reading.Item.{Item}
 use Rattle.c_file.specs.File.{FileItems}
 use Rattle.edit_marks.specs.declared.edit_conflict.edit.Edit.{Edit}
+use Rattle.edit_marks.specs.declared.tidy.walk.TidiedEdits.{TidiedEdits}
 use Rattle.edit_marks.specs.EditWalk.Edited.{AreEdits}
+use Rattle.edit_marks.specs.Tidy.Walk.{AreTidyEdits}
 use Rattle.rule_chain.proofs.EditLaws.BareEdits.{edits_with}
+use Rattle.rule_chain.proofs.EditLaws.BareTidyEdits.{tidy_edits_with}
 use Rattle.rule_chain.specs.RuleWitnesses.Bare.{bare_witness}
 use Rattle.env_parts.specs.Parts.{Pairs}
 use Rattle.rule_envs.specs.declared.file_env.FileEnv.{FileEnv}
@@ -21,16 +25,17 @@ use Rattle.rule_chain.specs.declared.rule_edits.fault.EditFault.{EditFault}
 use Rattle.rule_chain.specs.declared.rule_edits.fault.EditFault.TheVariants as edit_faults
 use Rattle.rule_chain.specs.declared.rule_edits.texts.NewText.{NewText}
 use Rattle.rule_chain.specs.RuleEdits.Nodes.{nodes_of}
-use Rattle.rule_chain.specs.RuleEdits.Pages.{Page, is_empty, IsNew}
-use Rattle.rule_chain.specs.RuleEdits.Faults.{AreFine, IsEditFault, Leaves}
+use Rattle.rule_chain.specs.RuleEdits.Pages.{Page, is_empty, page_after, IsNew}
+use Rattle.rule_chain.specs.RuleEdits.Faults.{AreFine, IsEditFault}
+use Rattle.rule_chain.specs.RuleEdits.Tidied.{AreTidyFine, IsEditFaultBy, IsTidyEditFault, LeavesBy}
 use Rattle.rule_chain.specs.declared.rule_run.state.FileState.{FileState}
 use Rattle.rule_chain.specs.declared.rule_run.fault.FileFault.{FileFault}
 use Rattle.rule_chain.specs.declared.rule_run.fault.FileFault.TheVariants.{NoMemory}
 use Rattle.rule_chain.specs.RuleRun.States.{Chained}
-use Rattle.rule_chain.specs.RuleRun.OneRule.{had_after, match_fault, edit_fault, file_witnesses, rule_file_envs, is_too_much, RuleEdits, AreFew}
-use Rattle.rule_chain.specs.RuleRun.OneRule.{IsFault}
+use Rattle.rule_chain.specs.RuleRun.OneRule.{had_after, match_fault, edit_fault, file_witnesses, rule_file_envs, is_too_much, RuleEdits, AreFew, state_with}
 use Rattle.rule_chain.specs.RuleRun.OneRule.IsFault.{too_many_witnesses, too_many_environments, in_edits}
-use Rattle.rule_chain.specs.RuleRun.Outcomes.{AreFindingsOf, IsAtReading, IsOutcome}
+use Rattle.rule_chain.specs.RuleRun.Tidied.{IsFaultBy, IsTidyFault, TidyRuleEdits}
+use Rattle.rule_chain.specs.RuleRun.Outcomes.{AreFindingsOf, IsAtReading, IsOutcomeBy}
 
 -- ---- witnesses without ids
 
@@ -91,58 +96,102 @@ module _ (defined : List (List ℕ)) (number : ℕ) (rule : Rule) (file : FileIt
         (ap (map bare_witness) same ∙ is ∙ sym found_as) (sym reading.items) (sym reading.pieces)
         (edits_with rule file.items (nodes_of rule file.items) file.pieces passed edits are)
 
+    tidy_rule_edits : (ws passed : List RuleWitness) (made : TidiedEdits) → passed ≡ ws → map bare_witness ws ≡ found_here
+        → AreTidyEdits passed rule file.items (nodes_of rule file.items) file.pieces made → TidyRuleEdits defined number rule s made
+    tidy_rule_edits ws passed made same is are =
+        subst₃ (λ w its ps. AreTidyEdits w rule its (nodes_of rule its) ps made)
+        (ap (map bare_witness) same ∙ is ∙ sym found_as) (sym reading.items) (sym reading.pieces)
+        (tidy_edits_with rule file.items (nodes_of rule file.items) file.pieces passed made are)
+
+    -- the findings that are left, whatever the page is
+    left_findings : (ws : List RuleWitness) (cs : List FileEnv) (left : FileState) (page : Page) → map bare_witness ws ≡ found_here
+        → map bare_file_env cs ≡ file_envs_here → left.file_envs ≡ cs → left.had ≡ had_after f.had number ws → left.found ≡ f.found ++ ws
+        → AreFindingsOf left (state_with defined number rule s page)
+    left_findings ws cs left page found carried c h w = record {
+      seen = record {
+        had_is = (λ i. had_after (seen.seen.had_is i) number ((found_as ∙ sym found) i)) ∙ had-bare f.had number ws ∙ sym h;
+        file_envs_is = file_envs_as ∙ sym carried ∙ ap (map bare_file_env) (sym c);
+      };
+      found_is = (λ i. seen.found_is i ++ (found_as ∙ sym found) i) ∙ sym (map-append bare_witness f.found ws) ∙ ap (map bare_witness) (sym w);
+    }
+
+    ran_as : (ran : Bool) → ran ≡ not (is_empty (rule_projections defined had number rule items (map bare_file_env file_envs)))
+        → ran ≡ not (is_empty (rule_projections defined s.had number rule s.items s.file_envs))
+    ran_as ran runs = runs ∙ ap (λ (envs : List Pairs). not (is_empty envs)) (sym runs_as)
+
+    many_by : (tidy : Bool) → too_much_here ≡ true → IsFaultBy tidy defined number rule s (match_fault number match_faults.TooManyWitnesses)
+    many_by false many = too_many_witnesses (too_much_as ∙ many)
+    many_by true many = IsTidyFault.too_many_witnesses (too_much_as ∙ many)
+
+    wide_by : (tidy : Bool) → too_much_here ≡ false → most_environments < length file_envs_here
+        → IsFaultBy tidy defined number rule s (match_fault number match_faults.TooManyEnvironments)
+    wide_by false few wide =
+        let e : length (rule_file_envs defined number rule s) ≡ length file_envs_here = ap length file_envs_as in
+        too_many_environments (too_much_as ∙ few) (omega (arith, e, wide))
+    wide_by true few wide =
+        let e : length (rule_file_envs defined number rule s) ≡ length file_envs_here = ap length file_envs_as in
+        IsTidyFault.too_many_environments (too_much_as ∙ few) (omega (arith, e, wide))
+
   -- what is left
-  pub rule_works : (ws passed : List RuleWitness) (cs : List FileEnv) (left : FileState) (text : Option NewText) (ran : Bool)
+  pub rule_works : (tidy : Bool) (ws passed : List RuleWitness) (cs : List FileEnv) (left : FileState) (text : Option NewText) (ran : Bool)
       → too_much_here ≡ false → map bare_witness ws ≡ found_here → map bare_file_env cs ≡ file_envs_here → length cs ≤ most_environments → passed ≡ ws
-      → ((edits : List Edit) × (AreEdits passed rule file.items (nodes_of rule file.items) file.pieces edits × Leaves next file.pieces edits text))
+      → LeavesBy tidy passed rule file.items next file.pieces text
       → left.file_envs ≡ cs → left.had ≡ had_after f.had number ws → left.found ≡ f.found ++ ws
       → ran ≡ not (is_empty (rule_projections defined had number rule items (map bare_file_env file_envs)))
-      → (s : Chained) → AreFindingsOf f s → IsAtReading file next s → IsOutcome defined number rule s left text ran
-  rule_works ws passed cs left text ran few found carried most same e c h w runs s seen reading = record {
+      → (s : Chained) → AreFindingsOf f s → IsAtReading file next s → IsOutcomeBy tidy defined number rule s left text ran
+  rule_works false ws passed cs left text ran few found carried most same e c h w runs s seen reading = record {
     edits = e.0;
     few = are_few s seen reading cs few carried most;
     are = rule_edits s seen reading ws passed e.0 same found e.1.0;
     fine = subst₂ (λ n ps. AreFine n ps e.0) (sym (next_as s seen reading)) (sym reading.pieces) e.1.1.fine;
-    findings_are = record {
-      seen = record {
-        had_is = (λ i. had_after (seen.seen.had_is i) number ((found_as s seen reading ∙ sym found) i)) ∙ had-bare f.had number ws ∙ sym h;
-        file_envs_is = file_envs_as s seen reading ∙ sym carried ∙ ap (map bare_file_env) (sym c);
-      };
-      found_is = (λ i. seen.found_is i ++ (found_as s seen reading ∙ sym found) i) ∙ sym (map-append bare_witness f.found ws)
-          ∙ ap (map bare_witness) (sym w);
-    };
+    findings_are = left_findings s seen reading ws cs left (page_after s.page.next s.pieces e.0) found carried c h w;
     text_is = subst₂ (λ n ps. IsNew n ps e.0 text) (sym (next_as s seen reading)) (sym reading.pieces) e.1.1.new;
-    ran_is = runs ∙ ap (λ (envs : List Pairs). not (is_empty envs)) (sym (runs_as s seen reading));
+    ran_is = ran_as s seen reading ran runs;
+  }
+  rule_works true ws passed cs left text ran few found carried most same e c h w runs s seen reading = record {
+    made = e.0;
+    page = e.1.1.page;
+    few = are_few s seen reading cs few carried most;
+    are = tidy_rule_edits s seen reading ws passed e.0 same found e.1.0;
+    fine = subst₃ (λ n ps its. AreTidyFine n ps its e.0 e.1.1.page) (sym (next_as s seen reading)) (sym reading.pieces) (sym reading.items) e.1.1.fine;
+    findings_are = left_findings s seen reading ws cs left e.1.1.page found carried c h w;
+    text_is = e.1.1.new;
+    ran_is = ran_as s seen reading ran runs;
   }
 
   -- the faults of its edits
-  pub edits_stop : (ws passed : List RuleWitness) (cs : List FileEnv) (fault : EditFault) (told : FileFault) → told ≡ edit_fault number fault
+  fault_by : (tidy : Bool) (ws passed : List RuleWitness) (cs : List FileEnv) (fault : EditFault)
       → too_much_here ≡ false → map bare_witness ws ≡ found_here → map bare_file_env cs ≡ file_envs_here → length cs ≤ most_environments → passed ≡ ws
-      → (fault ≡ edit_faults.NoMemory) ⊎ ((edits : List Edit)
-      × (AreEdits passed rule file.items (nodes_of rule file.items) file.pieces edits × IsEditFault next file.pieces edits fault))
-      → (told ≡ NoMemory) ⊎ ((s : Chained) → AreFindingsOf f s → IsAtReading file next s → IsFault defined number rule s told)
-  edits_stop ws passed cs fault told is few found carried most same (inl none) = inl (is ∙ ap (edit_fault number) none)
-  edits_stop ws passed cs fault told is few found carried most same (inr e) = inr (λ s seen reading.
-      subst (IsFault defined number rule s) (sym is)
-      (in_edits e.0 fault (are_few s seen reading cs few carried most) (rule_edits s seen reading ws passed e.0 same found e.1.0)
-      (subst₂ (λ n ps. IsEditFault n ps e.0 fault) (sym (next_as s seen reading)) (sym reading.pieces) e.1.1)))
+      → IsEditFaultBy tidy passed rule file.items next file.pieces fault
+      → (s : Chained) → AreFindingsOf f s → IsAtReading file next s → IsFaultBy tidy defined number rule s (edit_fault number fault)
+  fault_by false ws passed cs fault few found carried most same e s seen reading =
+      in_edits e.0 fault (are_few s seen reading cs few carried most) (rule_edits s seen reading ws passed e.0 same found e.1.0)
+      (subst₂ (λ n ps. IsEditFault n ps e.0 fault) (sym (next_as s seen reading)) (sym reading.pieces) e.1.1)
+  fault_by true ws passed cs fault few found carried most same e s seen reading =
+      IsTidyFault.in_edits e.0 fault (are_few s seen reading cs few carried most) (tidy_rule_edits s seen reading ws passed e.0 same found e.1.0)
+      (subst₃ (λ n ps its. IsTidyEditFault n ps its e.0 fault) (sym (next_as s seen reading)) (sym reading.pieces) (sym reading.items) e.1.1)
+
+  pub edits_stop : (tidy : Bool) (ws passed : List RuleWitness) (cs : List FileEnv) (fault : EditFault) (told : FileFault) → told ≡ edit_fault number fault
+      → too_much_here ≡ false → map bare_witness ws ≡ found_here → map bare_file_env cs ≡ file_envs_here → length cs ≤ most_environments → passed ≡ ws
+      → (fault ≡ edit_faults.NoMemory) ⊎ IsEditFaultBy tidy passed rule file.items next file.pieces fault
+      → (told ≡ NoMemory) ⊎ ((s : Chained) → AreFindingsOf f s → IsAtReading file next s → IsFaultBy tidy defined number rule s told)
+  edits_stop tidy ws passed cs fault told is few found carried most same (inl none) = inl (is ∙ ap (edit_fault number) none)
+  edits_stop tidy ws passed cs fault told is few found carried most same (inr e) = inr (λ s seen reading.
+      subst (IsFaultBy tidy defined number rule s) (sym is) (fault_by tidy ws passed cs fault few found carried most same e s seen reading))
 
   -- its other faults
-  told_by : (fault : MatchFault) → (fault ≡ match_faults.TooManyWitnesses → too_much_here ≡ true)
+  told_by : (tidy : Bool) (fault : MatchFault) → (fault ≡ match_faults.TooManyWitnesses → too_much_here ≡ true)
       → (fault ≡ match_faults.TooManyEnvironments → (too_much_here ≡ false) × (most_environments < length file_envs_here))
       → (match_fault number fault ≡ NoMemory)
-      ⊎ ((s : Chained) → AreFindingsOf f s → IsAtReading file next s → IsFault defined number rule s (match_fault number fault))
-  told_by match_faults.TooManyWitnesses many wide = inr (λ s seen reading. too_many_witnesses (too_much_as s seen reading ∙ many refl))
-  told_by match_faults.TooManyEnvironments many wide = inr (λ s seen reading.
-      let w = wide refl in
-      let e : length (rule_file_envs defined number rule s) ≡ length file_envs_here = ap length (file_envs_as s seen reading) in
-      too_many_environments (too_much_as s seen reading ∙ w.0) (omega (arith, e, w.1)))
-  told_by match_faults.NoMemory many wide = inl refl
+      ⊎ ((s : Chained) → AreFindingsOf f s → IsAtReading file next s → IsFaultBy tidy defined number rule s (match_fault number fault))
+  told_by tidy match_faults.TooManyWitnesses many wide = inr (λ s seen reading. many_by s seen reading tidy (many refl))
+  told_by tidy match_faults.TooManyEnvironments many wide = inr (λ s seen reading. let w = wide refl in wide_by s seen reading tidy w.0 w.1)
+  told_by tidy match_faults.NoMemory many wide = inl refl
 
-  pub matches_stop : (fault : MatchFault) (told : FileFault) → told ≡ match_fault number fault
+  pub matches_stop : (tidy : Bool) (fault : MatchFault) (told : FileFault) → told ≡ match_fault number fault
       → (fault ≡ match_faults.TooManyWitnesses → too_much_here ≡ true)
       → (fault ≡ match_faults.TooManyEnvironments → (too_much_here ≡ false) × (most_environments < length file_envs_here))
-      → (told ≡ NoMemory) ⊎ ((s : Chained) → AreFindingsOf f s → IsAtReading file next s → IsFault defined number rule s told)
-  matches_stop fault told is many wide =
-      subst (λ (t : FileFault). (t ≡ NoMemory) ⊎ ((s : Chained) → AreFindingsOf f s → IsAtReading file next s → IsFault defined number rule s t)) (sym is)
-      (told_by fault many wide)
+      → (told ≡ NoMemory) ⊎ ((s : Chained) → AreFindingsOf f s → IsAtReading file next s → IsFaultBy tidy defined number rule s told)
+  matches_stop tidy fault told is many wide =
+      subst (λ (t : FileFault). (t ≡ NoMemory) ⊎ ((s : Chained) → AreFindingsOf f s → IsAtReading file next s → IsFaultBy tidy defined number rule s t))
+      (sym is) (told_by tidy fault many wide)

@@ -9,13 +9,13 @@ use Rattle.rule_envs.specs.FileEnvs.{most_environments}
 use Rattle.rule_chain.specs.declared.rule_edits.fault.EditFault.{EditFault}
 use Rattle.rule_chain.specs.declared.rule_edits.fault.EditFault.TheVariants as edit
 use Rattle.rule_chain.specs.RuleEdits.Nodes.{nodes_of}
-use Rattle.rule_chain.specs.RuleEdits.Pages.{is_edited, page_after}
+use Rattle.rule_chain.specs.RuleEdits.Pages.{Page, is_edited, page_after}
 use Rattle.rule_chain.specs.RuleEdits.Faults.{AreFine, IsEditFault}
 use Rattle.rule_chain.specs.RuleMatches.Matching.{rule_found, file_envs_after, has_too_many, rule_projections}
 use Rattle.rule_chain.specs.declared.rule_matches.fault.MatchFault.{MatchFault}
 use Rattle.rule_chain.specs.declared.rule_matches.fault.MatchFault.TheVariants as matching
 use Rattle.rule_chain.specs.declared.rule_run.fault.FileFault.{FileFault}
-use Rattle.rule_chain.specs.declared.rule_run.fault.FileFault.TheVariants.{TooManyWitnesses, TooManyEnvironments, Conflict, FileTooLong, NoMemory}
+use Rattle.rule_chain.specs.declared.rule_run.fault.FileFault.TheVariants.{TooManyWitnesses, TooManyEnvironments, Conflict, Body, FileTooLong, NoMemory}
 use Rattle.rule_chain.specs.RuleRun.Needed.{ran_after}
 use Rattle.rule_chain.specs.RuleRun.States.{Chained, ReadsAgain}
 
@@ -28,6 +28,7 @@ match_fault number matching.NoMemory = NoMemory
 -- the fault of a rule's edits, with the rule's number
 abbrev pub edit_fault : ℕ → EditFault → FileFault
 edit_fault number (edit.Conflict id first second) = Conflict number id first second
+edit_fault number (edit.Body id) = Body number id
 edit_fault number edit.TooLong = FileTooLong number
 edit_fault number edit.NoMemory = NoMemory
 
@@ -56,15 +57,18 @@ module _ (defined : List (List ℕ)) (number : ℕ) (rule : Rule) (s : Chained) 
   abbrev pub RuleEdits : List Edit → Type 0
   RuleEdits = AreEdits file_witnesses rule s.items (nodes_of rule s.items) s.pieces
 
-  -- what it leaves if it meets no fault; the pieces and items are still those of the last reading
-  abbrev pub state_after : List Edit → Chained
-  state_after edits = record s {
-    page = page_after s.page.next s.pieces edits;
+  -- what it leaves with this page if it meets no fault; the pieces and items are still those of the last reading
+  abbrev pub state_with : Page → Chained
+  state_with page = record s {
+    page = page;
     file_envs = rule_file_envs;
     had = had_after s.had number file_witnesses;
     found = s.found ++ file_witnesses;
     needed = record s.needed { ran = ran_after s.needed.ran rule (rule_projections defined s.had number rule s.items s.file_envs) };
   }
+
+  abbrev pub state_after : List Edit → Chained
+  state_after edits = state_with (page_after s.page.next s.pieces edits)
 
 -- neither too many witnesses in an item, nor too many environments
 pub record AreFew (defined : List (List ℕ)) (number : ℕ) (rule : Rule) (s : Chained) : Type 0 where

@@ -10,6 +10,8 @@ use std::alloc::{AllocError, AllocFailed};
 pub enum EditFault {
     /// Two edits clash at the token with this id.
     Conflict(u64, Edit, Edit),
+    /// What stands in the place of a body is no list of statements. The id is that of the body's last token.
+    Body(u64),
     /// The text would have more than 16,777,216 bytes.
     TooLong,
     /// Out of memory.

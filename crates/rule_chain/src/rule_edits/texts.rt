@@ -4,6 +4,7 @@ ghost use Rattle.std.specs.List.{filter, list_any};
 ghost use Rattle.c_lexer.specs.Pieces.{text_of, most_bytes};
 ghost use Rattle.c_lexer.specs.Ids.{ids_of};
 ghost use Rattle.edit_marks.specs.declared.edit_conflict.edit.Edit.{Edit as Change};
+ghost use Rattle.edit_unparse.specs.NextId.{free_id};
 ghost use Rattle.edit_unparse.specs.Output.{output_of};
 ghost use Rattle.edit_marks.specs.EditConflict.Clashes.{IsFirstClash};
 ghost use Rattle.edit_marks.specs.EditWalk.Edited.{AreEdits};
@@ -20,7 +21,7 @@ use crate::rule_edits::nodes::{make_all, nodes};
 use c_file::{CFile, Graphs};
 use c_lexer::{Lexed, PieceKind};
 use edit_marks::{Clash, Edit, EditList, edits, first_clash};
-use edit_unparse::{OutFault, edited_text};
+use edit_unparse::{Edited, OutFault, edited_text};
 use smpl_patch::{Rule, RuleWitness};
 use std::alloc::Global;
 
@@ -41,7 +42,7 @@ fn changes(edit: &Edit) -> bool
 }
 
 /// Whether some edit changes anything.
-fn is_edited(edits: &[Edit]) -> bool
+pub fn is_edited(edits: &[Edit]) -> bool
     ensures { result ≡ spec.is_edited edits.now }
 {
     for edit in edits {
@@ -53,7 +54,7 @@ fn is_edited(edits: &[Edit]) -> bool
 }
 
 /// Whether the forest of some witness has a tree.
-fn has_tree(found: &[RuleWitness]) -> bool
+pub fn has_tree(found: &[RuleWitness]) -> bool
     ensures { result ≡ list_any (λ w. not (spec.is_empty w.forest)) found.now }
 {
     for witness in found {
@@ -65,7 +66,7 @@ fn has_tree(found: &[RuleWitness]) -> bool
 }
 
 /// Returns the id of a token, given its number in this reading.
-fn id_of(lexed: &Lexed, token: u32) -> u64
+pub fn id_of(lexed: &Lexed, token: u32) -> u64
     requires { token < length (ids_of lexed.now) }
     ensures { slice_get (ids_of lexed.now) token ≡ Some result }
 {
@@ -82,7 +83,7 @@ fn id_of(lexed: &Lexed, token: u32) -> u64
 }
 
 /// Returns the first clash as a fault.
-fn conflict(lexed: &Lexed, edits: EditList, clash: Clash) -> EditFault
+pub fn conflict(lexed: &Lexed, edits: EditList, clash: Clash) -> EditFault
     requires first { IsFirstClash edits clash }
     requires fit { All (FitsText (length (ids_of lexed.now))) edits }
     ensures fault { (next : ℕ) → IsEditFault next lexed.now edits result }
@@ -105,6 +106,23 @@ fn count_new(ids: &[u64], next: u64) -> usize
     count
 }
 
+/// Returns a text with its next id. `NoMemory`: that would be 2^64 or more.
+pub fn new_text(edited: Edited, next: u64) -> Result<NewText, EditFault>
+    ensures bytes { IfOk result (λ t. t.bytes ≡ edited.bytes) }
+    ensures ids { IfOk result (λ t. t.ids ≡ edited.ids) }
+    ensures next { IfOk result (λ t. t.next ≡ free_id next edited.ids.items) }
+    ensures fault { IfErr result (λ f. f ≡ fault.NoMemory) }
+{
+    match next.checked_add(count_new(edited.ids.as_slice(), next) as u64) {
+        Some(next) => Ok(NewText {
+            bytes: edited.bytes,
+            ids: edited.ids,
+            next,
+        }),
+        None => Err(EditFault::NoMemory),
+    }
+}
+
 /// Returns the text that the edits make, whether or not they clash. New tokens have ids from `next` on.
 fn written(alloc: Global, lexed: &Lexed, edits: &EditList, next: u64) -> Result<NewText, EditFault>
     requires fresh { next ≤ 2 ^ 62 }
@@ -114,21 +132,14 @@ fn written(alloc: Global, lexed: &Lexed, edits: &EditList, next: u64) -> Result<
         ⊎ ((f ≡ fault.TooLong) × (most_bytes < length (text_of (output_of lexed.now edits.now next))))) }
 {
     match edited_text(alloc, lexed, edits, next) {
-        Ok(edited) => match next.checked_add(count_new(edited.ids.as_slice(), next) as u64) {
-            Some(next) => Ok(NewText {
-                bytes: edited.bytes,
-                ids: edited.ids,
-                next,
-            }),
-            None => Err(EditFault::NoMemory),
-        },
+        Ok(edited) => new_text(edited, next),
         Err(OutFault::TooLong) => Err(EditFault::TooLong),
         Err(OutFault::NoMemory) => Err(EditFault::NoMemory),
     }
 }
 
 /// Returns no new text: the old one, which is short enough, stays.
-fn nothing_new(lexed: &Lexed) -> Option<NewText>
+pub fn nothing_new(lexed: &Lexed) -> Option<NewText>
     ensures none { result ≡ None }
     ensures short { length (text_of lexed.now) ≤ most_bytes }
 {

@@ -15,6 +15,8 @@ pub enum FileFault {
     FileTooLong(u32),
     /// Two edits clash at the token with this id.
     Conflict(u32, u64, Edit, Edit),
+    /// What stands in the place of a body is no list of statements. The id is that of the body's last token.
+    Body(u32, u64),
     /// The witnesses in one item under one environment have more than 1,000,000 touches and binds.
     TooManyWitnesses(u32),
     /// More than 10,000 environments result.
@@ -59,6 +61,7 @@ pub fn of_edits(number: u32, fault: EditFault) -> FileFault
 {
     match fault {
         EditFault::Conflict(id, first, second) => FileFault::Conflict(number, id, first, second),
+        EditFault::Body(id) => FileFault::Body(number, id),
         EditFault::TooLong => FileFault::FileTooLong(number),
         EditFault::NoMemory => FileFault::NoMemory,
     }

@@ -3,12 +3,15 @@ ghost use Rattle.std.specs.Prelude.{◌≡◌, ◌⊎◌, ◌++◌, ℕ, Bool, I
 ghost use Rattle.c_file.specs.ItemGraphs.Made.{IsMade};
 ghost use Rattle.rule_chain.specs.RuleRun.States.{Chained};
 ghost use Rattle.rule_chain.specs.RuleRun.OneRule as spec;
-ghost use Rattle.rule_chain.specs.RuleRun.Outcomes.{AreFindingsOf, IsAtReading, IsOutcome};
+ghost use Rattle.rule_chain.specs.RuleRun.Tidied.{IsFaultBy};
+ghost use Rattle.rule_chain.specs.RuleEdits.Tidied.{IsEditFaultBy, LeavesBy};
+ghost use Rattle.rule_chain.specs.declared.rule_edits.fault.EditFault.TheVariants as cause;
+ghost use Rattle.rule_chain.specs.RuleRun.Outcomes.{AreFindingsOf, IsAtReading, IsOutcomeBy};
 ghost use Rattle.rule_chain.specs.declared.rule_run.fault.FileFault.TheVariants as fault;
 
 use crate::patch_rules::ReadyRule;
 use crate::reading::Reading;
-use crate::rule_edits::{NewText, text_after_edits};
+use crate::rule_edits::{EditFault, NewText, text_after_edits, tidied_text_after_edits};
 use crate::rule_matches::{RuleMatches, match_rule};
 use crate::rule_run::fault::{FileFault, of_edits, of_matches};
 use crate::rule_run::state::FileState;
@@ -17,6 +20,7 @@ use c_terms::NoMemory;
 use par_match::{Gate, Workers};
 use smpl_patch::RuleWitness;
 use sqlite_items::Items;
+use std::alloc::Global;
 use std::thread::Threads;
 
 /// Returns the rules that have had a witness, after this one.
@@ -58,6 +62,29 @@ fn findings_after(
     })
 }
 
+/// Returns the text after the edits of the rule's witnesses, plain or tidied, if one of them isn't empty.
+fn text_after(
+    alloc: Global,
+    ready: &ReadyRule<'_>,
+    reading: &Reading<'_>,
+    graphs: &mut Graphs<'_>,
+    found: &[RuleWitness],
+) -> Result<Option<NewText>, EditFault>
+    requires items { graphs.old.items ≡ reading.now.file.now.items }
+    ensures text { IfOk result (LeavesBy ready.now.tidy found.now ready.now.rule.now reading.now.file.now.items reading.now.next
+        reading.now.file.now.pieces) }
+    ensures fault { IfErr result (λ f. (f ≡ cause.NoMemory) ⊎ IsEditFaultBy ready.now.tidy found.now ready.now.rule.now
+        reading.now.file.now.items reading.now.next reading.now.file.now.pieces f) }
+    ensures graphs { graphs.new.items ≡ graphs.old.items }
+    ensures kept { (typed : Bool) (k : ℕ) → IsMade graphs.old typed k → IsMade graphs.new typed k }
+{
+    let next = reading.next;
+    if ready.tidy {
+        return tidied_text_after_edits(alloc, ready.rule, reading.file, graphs, next, found);
+    }
+    text_after_edits(alloc, ready.rule, reading.file, graphs, next, found)
+}
+
 /// The findings after a rule, and the new text if one of its edits isn't empty.
 #[derive(Drop)]
 pub struct RuleOutcome {
@@ -78,10 +105,11 @@ pub struct RuleOutcome {
 /// - `TooManyWitnesses`: the witnesses in one item under one environment have more than 1,000,000 touches and binds.
 /// - `TooManyEnvironments`: more than 10,000 environments result.
 /// - `Conflict`: two edits clash; the id is that of the first token at which they do.
+/// - `Body`: the text is tidied, and what stands in the place of a body is no list of statements.
 /// - `FileTooLong`: the new text would have more than 16,777,216 bytes.
 /// - `NoMemory`: out of memory.
 ///
-/// Costs one [`match_rule`] and one [`text_after_edits`].
+/// Costs one [`match_rule`] and one [`text_after_edits`] or [`tidied_text_after_edits`].
 pub fn run_rule<R: Threads + Sync, G: Gate>(
     workers: &Workers<'_, R, G>,
     ready: &ReadyRule<'_>,
@@ -91,10 +119,10 @@ pub fn run_rule<R: Threads + Sync, G: Gate>(
 ) -> Result<RuleOutcome, FileFault>
     requires items { graphs.old.items ≡ reading.now.file.now.items }
     ensures outcome { IfOk result (λ w. (s : Chained) → AreFindingsOf findings s → IsAtReading reading.now.file.now reading.now.next s
-        → IsOutcome ready.now.defined.now ready.now.number ready.now.rule.now s w.findings w.text w.ran) }
+        → IsOutcomeBy ready.now.tidy ready.now.defined.now ready.now.number ready.now.rule.now s w.findings w.text w.ran) }
     ensures fault { IfErr result (λ f. (f ≡ fault.NoMemory) ⊎ ((s : Chained) → AreFindingsOf findings s
         → IsAtReading reading.now.file.now reading.now.next s
-        → spec.IsFault ready.now.defined.now ready.now.number ready.now.rule.now s f)) }
+        → IsFaultBy ready.now.tidy ready.now.defined.now ready.now.number ready.now.rule.now s f)) }
     ensures graphs { graphs.new.items ≡ graphs.old.items }
     ensures kept { (typed : Bool) (k : ℕ) → IsMade graphs.old typed k → IsMade graphs.new typed k }
 {
@@ -115,14 +143,8 @@ pub fn run_rule<R: Threads + Sync, G: Gate>(
         Ok(matches) => matches,
         Err(fault) => return Err(of_matches(ready.number, fault)),
     };
-    let text = match text_after_edits(
-        workers.alloc,
-        ready.rule,
-        reading.file,
-        graphs,
-        reading.next,
-        matches.witnesses.as_slice(),
-    ) {
+    let witnesses = matches.witnesses.as_slice();
+    let text = match text_after(workers.alloc, ready, reading, graphs, witnesses) {
         Ok(text) => text,
         Err(fault) => return Err(of_edits(ready.number, fault)),
     };

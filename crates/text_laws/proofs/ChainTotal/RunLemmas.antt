@@ -59,8 +59,8 @@ module _ (cut_law : CutLaw) (state_law : StateLaw) (text_law : TextLaw) (defined
   -- ---- one rule
 
   module _ (number : ℕ) (rule : Rule) (rules : List Rule) (s : Chained) (plus : HavePlusCode rule.tokens) (sound : IsSoundState s)
-      (later : (next : Chained) → IsSoundState next → Weakly ((end : Outcome) × Runs defined (suc number) rules next end))
-      (absent : ((end : Outcome) × Runs defined number (rule ∷ rules) s end) → ⊥) where
+      (later : (next : Chained) → IsSoundState next → Weakly ((end : Outcome) × Runs false defined (suc number) rules next end))
+      (absent : ((end : Outcome) × Runs false defined number (rule ∷ rules) s end) → ⊥) where
     refused : (fault : FileFault) → IsFault defined number rule s fault → ⊥
     refused fault is = absent (Refused fault, inl (fault, (is, refl)))
 
@@ -123,13 +123,13 @@ module _ (cut_law : CutLaw) (state_law : StateLaw) (text_law : TextLaw) (defined
   -- ---- all rules
 
   runs_some : (number : ℕ) (rules : List Rule) (s : Chained) → All RuleHasCode rules → IsSoundState s
-      → Weakly ((end : Outcome) × Runs defined number rules s end)
+      → Weakly ((end : Outcome) × Runs false defined number rules s end)
   runs_some number [] s plus sound = λ absent. absent (Done s, refl)
   runs_some number (rule ∷ rules) s plus sound = λ absent.
       ends number rule rules s (All-head RuleHasCode rule rules plus) sound
       (λ next fine. runs_some (suc number) rules next (All-tail RuleHasCode rule rules plus) fine) absent
 
-  pub chain_some : FirstLaw → (rules : List Rule) → All RuleHasCode rules → (text : List ℕ) → Weakly ((end : Outcome) × Chain rules defined text end)
+  pub chain_some : FirstLaw → (rules : List Rule) → All RuleHasCode rules → (text : List ℕ) → Weakly ((end : Outcome) × Chain false rules defined text end)
   chain_some first_law rules plus text = λ absent.
       let cut = cut_law text in
       reads_some cut_law cut.0 (λ items.

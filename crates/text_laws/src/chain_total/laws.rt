@@ -1,5 +1,5 @@
 // Laws on the end of the rules over a text. The functions do nothing.
-ghost use Rattle.std.specs.Prelude.{ℕ, List};
+ghost use Rattle.std.specs.Prelude.{ℕ, List, false};
 ghost use Rattle.c_lexer.specs.Pieces.{TextPiece};
 ghost use Rattle.cpp_lines.specs.declared.reading.Item.{Item};
 ghost use Rattle.c_file.specs.Reads.{Reads};
@@ -21,7 +21,8 @@ pub fn texts_are_read()
     every_text_is_cut();
 }
 
-/// Over each text the rules of a patch lead to a last state or to a fault: it is impossible that there is no such end.
+/// Over each text the rules of a patch lead to a last state or to a fault, without `--tidy`: it is impossible that there is no
+/// such end.
 ///
 /// - `read`: for a patch that bytes spell.
 /// - `forms`: for such a patch with all forms, under any isomorphisms.
@@ -29,10 +30,10 @@ pub fn texts_are_read()
 /// Does nothing.
 pub fn chains_have_an_end()
     ensures read { (bytes : List ℕ) (patch : Whole) (defined : List (List ℕ)) (text : List ℕ) → IsSpelled bytes patch →
-        Weakly ((end : Outcome) × Chain patch.rules defined text end) }
+        Weakly ((end : Outcome) × Chain false patch.rules defined text end) }
     ensures forms { (bytes : List ℕ) (isos : List Isomorphism) (patch whole : Whole) (defined : List (List ℕ))
         (text : List ℕ) → IsSpelled bytes patch → IsExpanded isos patch whole →
-        Weakly ((end : Outcome) × Chain whole.rules defined text end) }
+        Weakly ((end : Outcome) × Chain false whole.rules defined text end) }
 {
     every_text_is_cut();
     read_plus_code_is_sound();

@@ -11,13 +11,15 @@ pub returns-in_ok-answer-in-None-clause-step : goal.returns-in_ok-answer-in-None
 returns-in_ok-answer-in-None-clause-step g c = λ s at.
     let r = c.args.reached in
     let st = c.in_ok-stopped.stopped in
-    let on : Leading c.args.rules.now.defined.now c.args.rules.now.patch.now.rules r.done st.done r.file r.next r.findings st.findings None
+    let on : Leading c.args.rules.now.tidy c.args.rules.now.defined.now c.args.rules.now.patch.now.rules r.done st.done r.file
+    r.next r.findings st.findings None
     st.ran =
-    subst (λ (t : Option NewText). Leading c.args.rules.now.defined.now c.args.rules.now.patch.now.rules r.done st.done r.file r.next r.findings st.findings t
+    subst (λ (t : Option NewText). Leading c.args.rules.now.tidy c.args.rules.now.defined.now c.args.rules.now.patch.now.rules
+    r.done st.done r.file r.next r.findings st.findings t
     st.ran)
     c.in-None.is c.in_ok-stopped.ensures.stopped in
     let done : st.done ≡ length c.args.rules.now.patch.now.rules = c.in_ok-stopped.ensures.last c.in-None.is in
-    step_ended c.args.rules.now.unread c.args.rules.now.defined.now c.args.rules.now.patch.now.rules r.done st.done s st.findings st.ran
+    step_ended c.args.rules.now.tidy c.args.rules.now.unread c.args.rules.now.defined.now c.args.rules.now.patch.now.rules r.done st.done s st.findings st.ran
     r.file r.next r on at at.at (omega arith) c.in_ok-skipped.skipped
     (are_told c.args.rules.now.unread c.args.rules.now.patch.now.rules r st.ran c.as_slice.result.now c.in_ok-skipped.skipped
     c.as_slice.ensures c.in_ok-skipped.ensures)
@@ -28,13 +30,16 @@ returns-in_ok-go_on-in-Some-clause-step g c = λ s at.
     let r = c.args.reached in
     let st = c.in_ok-stopped.stopped in
     let text = c.in-Some.text in
-    let on : LeadsOn c.args.rules.now.defined.now c.args.rules.now.patch.now.rules r.done s st.done st.findings (Some text) st.ran =
-    subst (λ (t : Option NewText). LeadsOn c.args.rules.now.defined.now c.args.rules.now.patch.now.rules r.done s st.done st.findings t st.ran)
+    let on : LeadsOn c.args.rules.now.tidy c.args.rules.now.defined.now c.args.rules.now.patch.now.rules r.done s st.done st.findings (Some text) st.ran =
+    subst (λ (t : Option NewText). LeadsOn c.args.rules.now.tidy c.args.rules.now.defined.now c.args.rules.now.patch.now.rules
+    r.done s st.done st.findings t st.ran)
     c.in-Some.is (c.in_ok-stopped.ensures.stopped s at.findings at.at) in
-    went_on c.args.rules.now.unread c.args.rules.now.defined.now c.args.rules.now.patch.now.rules r.done st.done s st.findings st.ran text on
+    went_on c.args.rules.now.tidy c.args.rules.now.unread c.args.rules.now.defined.now c.args.rules.now.patch.now.rules r.done
+    st.done s st.findings st.ran text on
     c.in_ok-go_on-in-Some.field-0
     (c.in_ok-go_on-in-Some.ensures.comes on.state
-    (left_is c.args.rules.now.unread c.args.rules.now.defined.now c.args.rules.now.patch.now.rules r.done st.done s st.findings st.ran r text at on
+    (left_is c.args.rules.now.tidy c.args.rules.now.unread c.args.rules.now.defined.now c.args.rules.now.patch.now.rules r.done
+    st.done s st.findings st.ran r text at on
     c.in_ok-skipped.skipped
     (are_told c.args.rules.now.unread c.args.rules.now.patch.now.rules r st.ran c.as_slice.result.now c.in_ok-skipped.skipped
     c.as_slice.ensures c.in_ok-skipped.ensures)))
@@ -42,7 +47,7 @@ returns-in_ok-go_on-in-Some-clause-step g c = λ s at.
 pub returns-in_err-stopped-clause-fault : goal.returns-in_err-stopped-clause-fault
 returns-in_err-stopped-clause-fault g c =
     let p = err_from_is_err_and c.from_residual.result c.from_residual.ensures.1 in
-    rw (p.1, p.2) (seen_fault c.args.rules.now.unread c.args.rules.now.defined.now c.args.rules.now.patch.now.rules c.args.reached
+    rw (p.1, p.2) (seen_fault c.args.rules.now.tidy c.args.rules.now.unread c.args.rules.now.defined.now c.args.rules.now.patch.now.rules c.args.reached
     c.in_err-stopped.field-0.0 c.in_err-stopped.ensures.fault)
 
 pub returns-in_ok-go_on-in-Some-clause-further : goal.returns-in_ok-go_on-in-Some-clause-further

@@ -8,8 +8,8 @@ use Rattle.rule_chain.proofs.chain.over_readings.Given as goal
 abbrev pub invariant-loop-number : goal.invariant-loop-number
 invariant-loop-number g l = record {
   on : (s : Chained) → IsAt l.rules.unread l.initial.reached s → (now : Chained) × (IsAt l.rules.unread l.reached now
-      × ((end : Outcome) → Runs l.rules.defined.now l.reached.done (drop l.reached.done l.rules.patch.now.rules) now end
-      → Runs l.rules.defined.now 0 (drop 0 l.rules.patch.now.rules) s end));
+      × ((end : Outcome) → Runs l.rules.tidy l.rules.defined.now l.reached.done (drop l.reached.done l.rules.patch.now.rules) now end
+      → Runs l.rules.tidy l.rules.defined.now 0 (drop 0 l.rules.patch.now.rules) s end));
   far : l.number ≤ l.reached.done;
   within : l.reached.done ≤ length l.rules.patch.now.rules;
   reading : l.reached.reading ≤ l.reached.done;

@@ -8,21 +8,26 @@ use Rattle.rule_chain.proofs.notes.with_last.Goals as goal
 
 pub returns-in-All : goal.returns-in-All
 returns-in-All c = λ ran numbered.
-    last_all c.args.rules.now.unread c.args.rules.now.patch.now.rules c.args.rules.now.prepared.now.rules c.args.rules.now.words.now c.args.reading.now.file.now
-    c.args.reading.now.loaded c.args.reading.now.number ran c.args.skipped c.args.skipped c.in-All.is refl
+    let rules = c.args.rules.now in
+    let reading = c.args.reading.now in
+    last_all rules.unread rules.patch.now.rules rules.prepared.now.rules rules.words.now reading.file.now reading.loaded reading.number ran
+    c.args.skipped c.args.skipped c.in-All.is refl
 
 pub returns-in-None : goal.returns-in-None
 returns-in-None c = λ ran numbered.
-    last_none c.args.rules.now.unread c.args.rules.now.patch.now.rules c.args.rules.now.prepared.now.rules c.args.rules.now.words.now c.args.reading.now.file.now
-    c.args.reading.now.loaded c.args.reading.now.number ran c.args.skipped c.args.skipped c.in-None.is refl
+    let rules = c.args.rules.now in
+    let reading = c.args.reading.now in
+    last_none rules.unread rules.patch.now.rules rules.prepared.now.rules rules.words.now reading.file.now reading.loaded reading.number ran
+    c.args.skipped c.args.skipped c.in-None.is refl
 
 pub returns-in-Needed : goal.returns-in-Needed
 returns-in-Needed c =
+    let rules = c.args.rules.now in
+    let reading = c.args.reading.now in
     IfOk-weaker c.with_needed.result
-    (λ now. now ≡ c.args.skipped ++ kept_on c.args.rules.now.words.now c.args.ran.now c.args.reading.now.loaded c.args.reading.now.number c.args.reading.now.file.now)
-    (λ now. (ran_rules : List Rule) → AreNumbered c.args.rules.now.patch.now.rules ran_rules c.args.ran.now
-    → now ≡ c.args.skipped ++ told_last c.args.rules.now.unread ran_rules c.args.reading.now.loaded c.args.reading.now.number c.args.reading.now.file.now)
+    (λ now. now ≡ c.args.skipped ++ kept_on rules.words.now c.args.ran.now reading.loaded reading.number reading.file.now)
+    (λ now. (ran_rules : List Rule) → AreNumbered rules.patch.now.rules ran_rules c.args.ran.now
+    → now ≡ c.args.skipped ++ told_last rules.unread ran_rules reading.loaded reading.number reading.file.now)
     (λ now e ran numbered.
-    last_needed c.args.rules.now.unread c.args.rules.now.patch.now.rules c.args.rules.now.prepared.now.rules c.args.rules.now.words.now c.args.reading.now.file.now
-    c.args.reading.now.loaded c.args.reading.now.number ran c.args.skipped now c.in-Needed.is c.args.rules.now.prepared_are c.args.rules.now.words_are c.args.ran.now numbered e)
-    c.with_needed.ensures
+    last_needed rules.unread rules.patch.now.rules rules.prepared.now.rules rules.words.now reading.file.now reading.loaded reading.number ran
+    c.args.skipped now c.in-Needed.is rules.prepared_are rules.words_are c.args.ran.now numbered e) c.with_needed.ensures

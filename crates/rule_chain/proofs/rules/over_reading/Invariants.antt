@@ -8,5 +8,5 @@ abbrev pub invariant-loop-number : goal.invariant-loop-number
 invariant-loop-number g l = record {
   items : l.graphs.items ≡ l.reading.file.now.items;
   on : (s : Chained) → AreFindingsOf l.initial.findings s → IsAtReading l.reading.file.now l.reading.next s
-      → LeadsOn l.rules.defined.now l.rules.patch.now.rules l.from s l.number l.findings None l.ran;
+      → LeadsOn l.rules.tidy l.rules.defined.now l.rules.patch.now.rules l.from s l.number l.findings None l.ran;
 }

@@ -12,7 +12,7 @@ _rollgorge() {
     --functions) COMPREPLY=(); return ;;
   esac
   case $word in
-    -*) COMPREPLY=($(compgen -W '--sp-file --in-place --witnesses --check --quiet --unread --iso-file --define --jobs --generate --functions --help --version' -- "$word")) ;;
+    -*) COMPREPLY=($(compgen -W '--sp-file --in-place --tidy --witnesses --check --quiet --unread --iso-file --define --jobs --generate --functions --help --version' -- "$word")) ;;
     *) COMPREPLY=($(compgen -f -X '!*.[ch]' -- "$word") $(compgen -d -- "$word")) ;;
   esac
 }

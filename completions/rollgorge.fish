@@ -1,6 +1,7 @@
 # Completes the words of rollgorge in fish. Made by .ci/words.
 complete -c rollgorge -l sp-file -x -a '(__fish_complete_suffix .cocci)' -d 'the patch (needed)'
 complete -c rollgorge -l in-place -d 'store each file that changes; its text isn\'t printed'
+complete -c rollgorge -l tidy -d 'edit as for a commit'
 complete -c rollgorge -l witnesses -d 'print what each rule finds, in place of the text'
 complete -c rollgorge -l check -d 'print the names of files in which something is found; status 8 if there is one'
 complete -c rollgorge -l quiet -d 'leave out the lines that say more, which begin with two blanks'

@@ -70,7 +70,7 @@ on_the_patch : note_line (codes "p") NoSign ≡ codes "  p: note: no line has -,
 on_the_patch = refl
 
 abbrev mode : (witnesses quiet : Bool) → Mode
-mode witnesses quiet = record { witnesses = witnesses; in_place = false; check = false; quiet = quiet; unread = unread.All }
+mode witnesses quiet = record { witnesses = witnesses; in_place = false; check = false; quiet = quiet; unread = unread.All; tidy = false }
 
 -- a report needs no sign
 of_report : (note_lines (codes "p") false (OnFiles (mode true false) []) (NoSign ∷ plain_e ∷ [])).all ≡ note_line (codes "p") plain_e ∷ []
@@ -79,7 +79,7 @@ of_report = refl
 of_quiet : note_lines (codes "p") false (OnFiles (mode false true) []) (misspelt ∷ []) ≡ no_lines
 of_quiet = refl
 
-of_generated : note_lines (codes "p") false (OnText 1 2 false unread.All) (misspelt ∷ []) ≡ no_lines
+of_generated : note_lines (codes "p") false (OnText 1 2 false unread.All false) (misspelt ∷ []) ≡ no_lines
 of_generated = refl
 
 -- a misspelt kind is told where something was found too, and nothing else is

@@ -116,25 +116,27 @@ summary_shown rules applied choice s a =
     ∙ (λ i. summary rules (a.witnesses i) (length (a.bytes i)))
 
 -- what is made of the bytes, by whether they are refused
-pub applied_some : (patch : Patch) (defined : List (List ℕ)) (quiet : Bool) (choice told : Unread) (name bytes : List ℕ) (o : Option Applied)
-    (applied : Applied) (old new : Observed) → choice ≡ told → o ≡ Some applied → AppliesTo patch defined quiet choice name bytes o old new
-    → AppliesTo patch defined quiet told name bytes (Some applied) old new
-applied_some patch defined quiet choice told name bytes o applied old new same is made =
-    subst (λ (a : Option Applied). AppliesTo patch defined quiet told name bytes a old new) is
-    (subst (λ (u : Unread). AppliesTo patch defined quiet u name bytes o old new) same made)
+pub applied_some : (tidy left : Bool) (patch : Patch) (defined : List (List ℕ)) (quiet : Bool) (choice told : Unread) (name bytes : List ℕ)
+    (o : Option Applied) (applied : Applied) (old new : Observed) → tidy ≡ left → choice ≡ told → o ≡ Some applied
+    → AppliesTo tidy patch defined quiet choice name bytes o old new → AppliesTo left patch defined quiet told name bytes (Some applied) old new
+applied_some tidy left patch defined quiet choice told name bytes o applied old new alike same is made =
+    subst (λ (a : Option Applied). AppliesTo left patch defined quiet told name bytes a old new) is
+    (subst (λ (b : Bool). AppliesTo b patch defined quiet told name bytes o old new) alike
+    (subst (λ (u : Unread). AppliesTo tidy patch defined quiet u name bytes o old new) same made))
 
-pub applied_none : (patch : Patch) (defined : List (List ℕ)) (quiet : Bool) (choice told : Unread) (name bytes : List ℕ) (o : Option Applied)
-    (old new : Observed) → choice ≡ told → ((applied : Applied) → o ≡ Some applied → ⊥)
-    → AppliesTo patch defined quiet choice name bytes o old new → AppliesTo patch defined quiet told name bytes None old new
-applied_none patch defined quiet choice told name bytes None old new same not made =
-    subst (λ (u : Unread). AppliesTo patch defined quiet u name bytes None old new) same made
-applied_none patch defined quiet choice told name bytes (Some applied) old new same not made = absurd (not applied refl)
+pub applied_none : (tidy left : Bool) (patch : Patch) (defined : List (List ℕ)) (quiet : Bool) (choice told : Unread) (name bytes : List ℕ)
+    (o : Option Applied) (old new : Observed) → tidy ≡ left → choice ≡ told → ((applied : Applied) → o ≡ Some applied → ⊥)
+    → AppliesTo tidy patch defined quiet choice name bytes o old new → AppliesTo left patch defined quiet told name bytes None old new
+applied_none tidy left patch defined quiet choice told name bytes None old new alike same not made =
+    subst (λ (b : Bool). AppliesTo b patch defined quiet told name bytes None old new) alike
+    (subst (λ (u : Unread). AppliesTo tidy patch defined quiet u name bytes None old new) same made)
+applied_none tidy left patch defined quiet choice told name bytes (Some applied) old new alike same not made = absurd (not applied refl)
 
 -- a fault other than `NoMemory` is one of the rules
-pub fault_ends : (choice : Unread) (rules : List Rule) (defined : List (List ℕ)) (bytes : List ℕ) (fault : FileFault) → (fault ≡ NoMemory → ⊥)
-    → IsResult choice rules defined bytes (Err fault) → EndsBy choice rules defined bytes (Refused fault)
-fault_ends choice rules defined bytes fault other (inl none) = absurd (other none)
-fault_ends choice rules defined bytes fault other (inr ends) = ends
+pub fault_ends : (tidy : Bool) (choice : Unread) (rules : List Rule) (defined : List (List ℕ)) (bytes : List ℕ) (fault : FileFault)
+    → (fault ≡ NoMemory → ⊥) → IsResult tidy choice rules defined bytes (Err fault) → EndsBy tidy choice rules defined bytes (Refused fault)
+fault_ends tidy choice rules defined bytes fault other (inl none) = absurd (other none)
+fault_ends tidy choice rules defined bytes fault other (inr ends) = ends
 
 -- what is known of a text that isn't refused
 abbrev known : (hit found : Bool) → Tally
@@ -143,7 +145,7 @@ known hit found = record { refused = false; hit = hit; found = found }
 -- ---- a file
 
 module _ (mode : Mode) (patch : Patch) (defined : List (List ℕ)) (name bytes : List ℕ) (short : length bytes ≤ 16777216) where
-  pub refused_all : (old new : Observed) → AppliesTo patch defined mode.quiet mode.unread name bytes None old new
+  pub refused_all : (old new : Observed) → AppliesTo mode.tidy patch defined mode.quiet mode.unread name bytes None old new
       → TreatsAll (IsTreatmentOf mode patch defined name bytes) refused_tally old new
   refused_all old new is = record {
     treated = faulted name bytes (told_places mode.quiet is.1.1.0) is.0;
@@ -152,15 +154,17 @@ module _ (mode : Mode) (patch : Patch) (defined : List (List ℕ)) (name bytes :
     does = is.1.1.1.1;
   }
 
-  pub refused_part : (choice : Unread) (before now : Counts) (old new : Observed) (status : ℕ) → choice ≡ mode.unread
-      → TreatsPart (Refuses patch defined mode.quiet choice name bytes) before now old new status
+  pub refused_part : (tidy : Bool) (choice : Unread) (before now : Counts) (old new : Observed) (status : ℕ)
+      → tidy ≡ mode.tidy → choice ≡ mode.unread
+      → TreatsPart (Refuses tidy patch defined mode.quiet choice name bytes) before now old new status
       → TreatsPart (IsTreatmentOf mode patch defined name bytes) before now old new status
-  refused_part choice before now old new status told (earlier memory same) = earlier memory same
-  refused_part choice before now old new status told (later treated is stops) =
-      let ends = subst (λ (u : Unread). EndsBy u patch.rules defined bytes (Refused is.0)) told is.1.0 in
+  refused_part tidy choice before now old new status alike told (earlier memory same) = earlier memory same
+  refused_part tidy choice before now old new status alike told (later treated is stops) =
+      let ends = subst (λ (b : Bool). EndsBy b mode.unread patch.rules defined bytes (Refused is.0)) alike
+      (subst (λ (u : Unread). EndsBy tidy u patch.rules defined bytes (Refused is.0)) told is.1.0) in
       later treated (inr (short, (Refused is.0, (ends, is.1.1)))) stops
 
-  module _ (s : Chained) (ends : EndsBy mode.unread patch.rules defined bytes (Done s)) (found : TextPlaces) (are : ArePlaces bytes found)
+  module _ (s : Chained) (ends : EndsBy mode.tidy mode.unread patch.rules defined bytes (Done s)) (found : TextPlaces) (are : ArePlaces bytes found)
       (notes : List SkipNote) (notes_are : notes ≡ told_notes mode.unread s) where
     abbrev places : TextPlaces
     places = told_places mode.quiet found
@@ -214,9 +218,10 @@ module _ (mode : Mode) (patch : Patch) (defined : List (List ℕ)) (name bytes :
 
 -- ---- a generated text
 
-module _ (patch : Patch) (defined : List (List ℕ)) (quiet : Bool) (choice : Unread) (bytes : List ℕ) (short : length bytes ≤ 16777216) where
-  pub sum_refused_all : (old new : Observed) → AppliesTo patch defined quiet choice generated_name bytes None old new
-      → TreatsAll (Sums patch defined quiet choice generated_name bytes) refused_tally old new
+module _ (tidy : Bool) (patch : Patch) (defined : List (List ℕ)) (quiet : Bool) (choice : Unread) (bytes : List ℕ)
+    (short : length bytes ≤ 16777216) where
+  pub sum_refused_all : (old new : Observed) → AppliesTo tidy patch defined quiet choice generated_name bytes None old new
+      → TreatsAll (Sums tidy patch defined quiet choice generated_name bytes) refused_tally old new
   sum_refused_all old new is = record {
     treated = faulted generated_name bytes (told_places quiet is.1.1.0) is.0;
     treats = (short, (Refused is.0, (is.1.0, (is.1.1.0, (is.1.1.1.0, refl)))));
@@ -225,12 +230,12 @@ module _ (patch : Patch) (defined : List (List ℕ)) (quiet : Bool) (choice : Un
   }
 
   pub sum_refused_part : (before now : Counts) (old new : Observed) (status : ℕ)
-      → TreatsPart (Refuses patch defined quiet choice generated_name bytes) before now old new status
-      → TreatsPart (Sums patch defined quiet choice generated_name bytes) before now old new status
+      → TreatsPart (Refuses tidy patch defined quiet choice generated_name bytes) before now old new status
+      → TreatsPart (Sums tidy patch defined quiet choice generated_name bytes) before now old new status
   sum_refused_part before now old new status (earlier memory same) = earlier memory same
   sum_refused_part before now old new status (later treated is stops) = later treated (short, (Refused is.0, (is.1.0, is.1.1))) stops
 
-  module _ (s : Chained) (ends : EndsBy choice patch.rules defined bytes (Done s)) (found : TextPlaces) (are : ArePlaces bytes found)
+  module _ (s : Chained) (ends : EndsBy tidy choice patch.rules defined bytes (Done s)) (found : TextPlaces) (are : ArePlaces bytes found)
       (notes : List SkipNote) (notes_are : notes ≡ told_notes choice s) where
     abbrev sum_places : TextPlaces
     sum_places = told_places quiet found
@@ -241,13 +246,13 @@ module _ (patch : Patch) (defined : List (List ℕ)) (quiet : Bool) (choice : Un
     abbrev sum_text : List ℕ
     sum_text = summary patch.rules s.found (length s.page.bytes)
 
-    sums : Sums patch defined quiet choice generated_name bytes (summed_by patch choice generated_name bytes sum_places (Done s))
+    sums : Sums tidy patch defined quiet choice generated_name bytes (summed_by patch choice generated_name bytes sum_places (Done s))
     sums = (short, (Done s, (ends, (found, (are, refl)))))
 
     pub summed_all : (has : Bool) (old mid one new : Observed) → has ≡ nat_le 1 (length s.found)
         → mid ≡ old → Does (map (note_act generated_name bytes sum_places) notes) mid one
         → Does (printing sum_text) one new
-        → TreatsAll (Sums patch defined quiet choice generated_name bytes) (record { refused = false; hit = false; found = has }) old new
+        → TreatsAll (Sums tidy patch defined quiet choice generated_name bytes) (record { refused = false; hit = false; found = has }) old new
     summed_all has old mid one new has_is same first second = record {
       treated = summed_by patch choice generated_name bytes sum_places (Done s);
       treats = sums;
@@ -258,7 +263,7 @@ module _ (patch : Patch) (defined : List (List ℕ)) (quiet : Bool) (choice : Un
 
     pub sum_stopped_in_lines : (first before now : Counts) (old mid new : Observed) (status : ℕ) → NoneFell first before → mid ≡ old
         → Stops (map (note_act generated_name bytes sum_places) notes) before now mid new status
-        → TreatsPart (Sums patch defined quiet choice generated_name bytes) first now old new status
+        → TreatsPart (Sums tidy patch defined quiet choice generated_name bytes) first now old new status
     sum_stopped_in_lines first before now old mid new status fell same stops =
         later (summed_by patch choice generated_name bytes sum_places (Done s)) sums
         (Stops-first sum_lines (printing sum_text) first now old new status
@@ -266,7 +271,7 @@ module _ (patch : Patch) (defined : List (List ℕ)) (quiet : Bool) (choice : Un
 
     pub stopped_in_summary : (first before now : Counts) (old mid one new : Observed) (status : ℕ) → NoneFell first before → mid ≡ old
         → Does (map (note_act generated_name bytes sum_places) notes) mid one → Stops (printing sum_text) before now one new status
-        → TreatsPart (Sums patch defined quiet choice generated_name bytes) first now old new status
+        → TreatsPart (Sums tidy patch defined quiet choice generated_name bytes) first now old new status
     stopped_in_summary first before now old mid one new status fell same first_lines stops =
         later (summed_by patch choice generated_name bytes sum_places (Done s)) sums
         (Stops-then sum_lines (printing sum_text) first before now old one new status fell

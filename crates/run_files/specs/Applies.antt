@@ -16,16 +16,16 @@ use Rattle.run_files.specs.Treatment.{Treated, faulted, told_places}
 use Rattle.run_files.specs.Does.{Does}
 
 -- the bytes are refused under the patch, and this is their treatment
-abbrev pub Refuses : Patch → List (List ℕ) → (quiet : Bool) → Unread → List ℕ → List ℕ → Treated → Type 0
-Refuses patch defined quiet unread name bytes treated =
-    (fault : FileFault) × (EndsBy unread patch.rules defined bytes (Refused fault)
+abbrev pub Refuses : (tidy : Bool) → Patch → List (List ℕ) → (quiet : Bool) → Unread → List ℕ → List ℕ → Treated → Type 0
+Refuses tidy patch defined quiet unread name bytes treated =
+    (fault : FileFault) × (EndsBy tidy unread patch.rules defined bytes (Refused fault)
     × ((places : TextPlaces) × (ArePlaces bytes places × (treated ≡ faulted name bytes (told_places quiet places) fault))))
 
 -- the last state is returned, and nothing is output; or the text is refused, and its line is reported
-abbrev pub AppliesTo : Patch → List (List ℕ) → (quiet : Bool) → Unread → List ℕ → List ℕ → Option Applied → Observed → Observed → Type 0
-AppliesTo patch defined quiet unread name bytes (Some applied) old new =
-    (s : Chained) × (EndsBy unread patch.rules defined bytes (Done s) × (AnswersState unread applied s × (new ≡ old)))
-AppliesTo patch defined quiet unread name bytes None old new =
-    (fault : FileFault) × (EndsBy unread patch.rules defined bytes (Refused fault)
+abbrev pub AppliesTo : (tidy : Bool) → Patch → List (List ℕ) → (quiet : Bool) → Unread → List ℕ → List ℕ → Option Applied → Observed → Observed → Type 0
+AppliesTo tidy patch defined quiet unread name bytes (Some applied) old new =
+    (s : Chained) × (EndsBy tidy unread patch.rules defined bytes (Done s) × (AnswersState unread applied s × (new ≡ old)))
+AppliesTo tidy patch defined quiet unread name bytes None old new =
+    (fault : FileFault) × (EndsBy tidy unread patch.rules defined bytes (Refused fault)
     × ((places : TextPlaces) × (ArePlaces bytes places
     × Does (Report (refused_line name (fault_place bytes (told_places quiet places) fault) fault) ∷ []) old new)))

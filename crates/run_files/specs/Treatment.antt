@@ -133,7 +133,7 @@ summed_by patch unread name bytes places (Refused fault) = faulted name bytes pl
 abbrev pub IsTreatmentOf : Mode → Patch → List (List ℕ) → List ℕ → List ℕ → Treated → Type 0
 IsTreatmentOf mode patch defined name bytes treated =
     ((file_limit < length bytes) × (treated ≡ refuses (too_long_line name)))
-    ⊎ ((length bytes ≤ file_limit) × ((end : Outcome) × (EndsBy mode.unread patch.rules defined bytes end
+    ⊎ ((length bytes ≤ file_limit) × ((end : Outcome) × (EndsBy mode.tidy mode.unread patch.rules defined bytes end
     × ((places : TextPlaces) × (ArePlaces bytes places × (treated ≡ treated_by mode patch name bytes (told_places mode.quiet places) end))))))
 
 -- This is the treatment of what is stored under this name, with these bytes. If the shelf doesn't reveal what it holds, it may
@@ -144,7 +144,7 @@ IsFileTreatmentOf holds mode patch defined name bytes treated =
     ⊎ ((holds ≡ None) × (treated ≡ refuses (special_line name)))
 
 -- this is the treatment of a generated text, which isn't too long
-abbrev pub Sums : Patch → List (List ℕ) → (quiet : Bool) → Unread → List ℕ → List ℕ → Treated → Type 0
-Sums patch defined quiet unread name bytes treated =
-    (length bytes ≤ file_limit) × ((end : Outcome) × (EndsBy unread patch.rules defined bytes end
+abbrev pub Sums : (tidy : Bool) → Patch → List (List ℕ) → (quiet : Bool) → Unread → List ℕ → List ℕ → Treated → Type 0
+Sums tidy patch defined quiet unread name bytes treated =
+    (length bytes ≤ file_limit) × ((end : Outcome) × (EndsBy tidy unread patch.rules defined bytes end
     × ((places : TextPlaces) × (ArePlaces bytes places × (treated ≡ summed_by patch unread name bytes (told_places quiet places) end)))))

@@ -43,11 +43,11 @@ pub fn apply_or_refuse<R: Threads + Sync, E: Sink, G: Gate>(
 ) -> Result<Option<Applied>, Stopped>
     requires short { length bytes.now ≤ most_bytes }
     ensures done { IfOk result (λ applied. (files : Option Files) (stores : ℕ) (out : Option (List ℕ)) →
-        AppliesTo rules.now.patch.now rules.now.defined.now quiet rules.now.unread name.now bytes.now applied
+        AppliesTo rules.now.tidy rules.now.patch.now rules.now.defined.now quiet rules.now.unread name.now bytes.now applied
         (observed files stores out (E.written err.old)) (observed files stores out (E.written err.new))) }
     ensures later { E.faults err.old ≤ E.faults err.new }
     ensures stopped { IfErr result (λ stopped. (files : Option Files) (out : Option (List ℕ)) (stores s o s' o' : ℕ) →
-        TreatsPart (Refuses rules.now.patch.now rules.now.defined.now quiet rules.now.unread name.now bytes.now)
+        TreatsPart (Refuses rules.now.tidy rules.now.patch.now rules.now.defined.now quiet rules.now.unread name.now bytes.now)
         (counts s o (E.faults err.old)) (counts s' o' (E.faults err.new))
         (observed files stores out (E.written err.old)) (observed files stores out (E.written err.new)) (status_of stopped)) }
 {

@@ -192,16 +192,23 @@ fn report_made<E: Sink>(err: &mut E, made: Result<Vec<u8>, NoMemory>) -> Result<
     report(err, &line)
 }
 
+/// Returns the token at which a refusal is, if it is at one.
+fn fault_token(fault: &FileFault) -> Option<u64>
+    ensures { result ≡ lines.fault_token fault.now }
+{
+    match fault {
+        FileFault::Conflict(_, token, _, _) => Some(*token),
+        FileFault::Body(_, token) => Some(*token),
+        _ => None,
+    }
+}
+
 /// Returns where the token of a refusal begins in the text that was loaded, if it was loaded.
 fn fault_start(found: &TextPlaces, fault: &FileFault) -> Option<u32>
     ensures { result ≡ lines.fault_start found.now fault.now }
 {
-    match fault {
-        FileFault::Conflict(_, token, _, _) => {
-            at(found.tokens.as_slice(), *token as usize).copied()
-        }
-        _ => None,
-    }
+    let token = fault_token(fault)?;
+    at(found.tokens.as_slice(), token as usize).copied()
 }
 
 /// Returns where a refusal is in the text that was loaded.
@@ -214,20 +221,20 @@ fn fault_place(
     ensures { IfOk result (λ place. (found : Found) → ArePlaces text.now found →
         place ≡ lines.fault_place text.now (told_places quiet found) fault.now) }
 {
-    match fault {
-        FileFault::Conflict(..) => {
+    match fault_token(fault) {
+        Some(_) => {
             let found = find_places(alloc, quiet, text)?;
             let start = fault_start(&found, fault);
             Ok(placed(text, start))
         }
-        _ => Ok(None),
+        None => Ok(None),
     }
 }
 
 /// Reports the line of a refused file.
 ///
-/// Linear in the line, and, if two edits clash, in the text that was loaded, which is cut once more. Under `--quiet` nothing has a
-/// place, and the text isn't cut.
+/// Linear in the line, and, if the refusal has a token, in the text that was loaded, which is cut once more. Under `--quiet`
+/// nothing has a place, and the text isn't cut.
 pub fn refuse<E: Sink>(
     alloc: Global,
     err: &mut E,

@@ -1,5 +1,5 @@
 // What holds for every refusal.
-ghost use Rattle.std.specs.Prelude.{List, ℕ};
+ghost use Rattle.std.specs.Prelude.{Bool, List, ℕ};
 ghost use Rattle.smpl_patch.specs.declared.rule.Rule.{Rule};
 ghost use Rattle.rule_chain.specs.declared.rule_run.fault.FileFault.TheVariants as cause;
 ghost use Rattle.rule_chain.specs.Chain.{Refused};
@@ -8,6 +8,6 @@ ghost use Rattle.run_choices.specs.declared.unread.Unread.{Unread};
 
 /// No text is refused because memory ran out, so the line of a refusal always says why. Does nothing.
 pub fn refusals_say_why()
-    ensures { (unread : Unread) (rules : List Rule) (defined : List (List ℕ)) (bytes : List ℕ) →
-        EndsBy unread rules defined bytes (Refused cause.NoMemory) → ⊥ }
+    ensures { (tidy : Bool) (unread : Unread) (rules : List Rule) (defined : List (List ℕ)) (bytes : List ℕ) →
+        EndsBy tidy unread rules defined bytes (Refused cause.NoMemory) → ⊥ }
 {}

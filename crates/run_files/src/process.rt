@@ -57,6 +57,7 @@ pub fn process_file<R: Threads + Sync, S: Shelf, O: Sink, E: Sink, G: Gate>(
 ) -> Result<Tally, Stopped>
     requires short { length bytes.items ≤ most_bytes }
     requires unread { rules.now.unread ≡ mode.unread }
+    requires tidy { rules.now.tidy ≡ mode.tidy }
     ensures same { SamePlaces outside.old outside.new }
     ensures treated { IfOk result (λ tally. TreatsAll (IsTreatmentOf mode rules.now.patch.now rules.now.defined.now name.now bytes.items) tally
         (observed (S.holds outside.old.shelf.now) (S.stores outside.old.shelf.now) (O.written outside.old.out.now) (E.written outside.old.err.now))
@@ -195,12 +196,12 @@ pub fn sum<R: Threads + Sync, O: Sink, E: Sink, G: Gate>(
 ) -> Result<Tally, Stopped>
     requires short { length bytes.items ≤ most_bytes }
     ensures treated { IfOk result (λ tally. (files : Option Files) (stores : ℕ) →
-        TreatsAll (Sums rules.now.patch.now rules.now.defined.now quiet rules.now.unread generated_name bytes.items) tally
+        TreatsAll (Sums rules.now.tidy rules.now.patch.now rules.now.defined.now quiet rules.now.unread generated_name bytes.items) tally
         (observed files stores (O.written out.old) (E.written err.old)) (observed files stores (O.written out.new) (E.written err.new))) }
     ensures later { O.faults out.old ≤ O.faults out.new }
     ensures later_err { E.faults err.old ≤ E.faults err.new }
     ensures stopped { IfErr result (λ stopped. (files : Option Files) (stores n n' : ℕ) →
-        TreatsPart (Sums rules.now.patch.now rules.now.defined.now quiet rules.now.unread generated_name bytes.items)
+        TreatsPart (Sums rules.now.tidy rules.now.patch.now rules.now.defined.now quiet rules.now.unread generated_name bytes.items)
         (counts n (O.faults out.old) (E.faults err.old)) (counts n' (O.faults out.new) (E.faults err.new))
         (observed files stores (O.written out.old) (E.written err.old)) (observed files stores (O.written out.new) (E.written err.new))
         (status_of stopped)) }

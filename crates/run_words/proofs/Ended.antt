@@ -95,7 +95,7 @@ plain_rules = valued_rule (codes "sp-file") ∷ valued_rule (codes "iso-file") �
 
 abbrev other_rules : List Rule
 other_rules = flag_rule (codes "witnesses") ∷ flag_rule (codes "in-place") ∷ flag_rule (codes "check") ∷ flag_rule (codes "quiet")
-    ∷ flag_rule (codes "help") ∷ flag_rule (codes "version") ∷ file_rule ∷ []
+    ∷ flag_rule (codes "tidy") ∷ flag_rule (codes "help") ∷ flag_rule (codes "version") ∷ file_rule ∷ []
 
 ended_is : (rows : List Row) → fold with_default rows spatch_rules ≡ with_flags rows
 ended_is rows = skips plain_rules other_rules rows (refl, (refl, (refl, (refl, (refl, (refl, (refl, tt)))))))
@@ -150,7 +150,7 @@ level_is words =
     let W = walk_fault spatch [] (walk_from nothing_held) words in
     let S = settle_fault spatch.rules spatch.args_override_self end.held in
     let defaults : defaults_fault (settled_rows spatch.rules end.held.pending end.held.rows) spatch_rules ≡ [] =
-    no_defaults spatch_rules (refl, (refl, (refl, (refl, (refl, (refl, (refl, (refl, (refl, (refl, (refl, (refl, (refl, (refl, tt))))))))))))))
+    no_defaults spatch_rules (refl, (refl, (refl, (refl, (refl, (refl, (refl, (refl, (refl, (refl, (refl, (refl, (refl, (refl, (refl, tt)))))))))))))))
     (settled_rows spatch.rules end.held.pending end.held.rows) in
     ap (λ d. or_else W (or_else S (or_else d []))) defaults ∙ ap (or_else W) (or_none S)
 
@@ -226,6 +226,10 @@ quiet_read : IsRead (codes "quiet")
 quiet_read true = refl
 quiet_read false = refl
 
+tidy_read : IsRead (codes "tidy")
+tidy_read true = refl
+tidy_read false = refl
+
 help_read : IsRead (codes "help")
 help_read true = refl
 help_read false = refl
@@ -265,9 +269,9 @@ no_valued name differs valued = of_one (λ n. bytes_eq n name ≡ false) valued_
 
 -- ---- whole parses
 
-abbrev made : (sp_file iso_file define jobs generate functions unread : Option Text) (witnesses in_place check quiet help version : Bool)
+abbrev made : (sp_file iso_file define jobs generate functions unread : Option Text) (witnesses in_place check quiet tidy help version : Bool)
     (files : List Text) → Options
-made sp_file iso_file define jobs generate functions unread witnesses in_place check quiet help version files = record {
+made sp_file iso_file define jobs generate functions unread witnesses in_place check quiet tidy help version files = record {
   sp_file = sp_file;
   iso_file = iso_file;
   define = define;
@@ -279,36 +283,41 @@ made sp_file iso_file define jobs generate functions unread witnesses in_place c
   in_place = in_place;
   check = check;
   quiet = quiet;
+  tidy = tidy;
   help = help;
   version = version;
   files = files;
 }
 
-same_made : (a1 a2 a3 a4 a5 a6 a7 b1 b2 b3 b4 b5 b6 b7 : Option Text) (a8 a9 a10 a11 a12 a13 b8 b9 b10 b11 b12 b13 : Bool) (a14 b14 : List Text)
-    → a1 ≡ b1 → a2 ≡ b2 → a3 ≡ b3 → a4 ≡ b4 → a5 ≡ b5 → a6 ≡ b6 → a7 ≡ b7
-    → a8 ≡ b8 → a9 ≡ b9 → a10 ≡ b10 → a11 ≡ b11 → a12 ≡ b12 → a13 ≡ b13 → a14 ≡ b14
-    → made a1 a2 a3 a4 a5 a6 a7 a8 a9 a10 a11 a12 a13 a14 ≡ made b1 b2 b3 b4 b5 b6 b7 b8 b9 b10 b11 b12 b13 b14
-same_made a1 a2 a3 a4 a5 a6 a7 b1 b2 b3 b4 b5 b6 b7 a8 a9 a10 a11 a12 a13 b8 b9 b10 b11 b12 b13 a14 b14 e1 e2 e3 e4 e5 e6 e7 e8 e9 e10 e11 e12 e13 e14 =
-    rw (e1, e2, e3, e4, e5, e6, e7, e8, e9, e10, e11, e12, e13, e14) refl
+same_made : (a1 a2 a3 a4 a5 a6 a7 b1 b2 b3 b4 b5 b6 b7 : Option Text) (a8 a9 a10 a11 a12 a13 a14 b8 b9 b10 b11 b12 b13 b14 : Bool)
+    (a15 b15 : List Text) → a1 ≡ b1 → a2 ≡ b2 → a3 ≡ b3 → a4 ≡ b4 → a5 ≡ b5 → a6 ≡ b6 → a7 ≡ b7
+    → a8 ≡ b8 → a9 ≡ b9 → a10 ≡ b10 → a11 ≡ b11 → a12 ≡ b12 → a13 ≡ b13 → a14 ≡ b14 → a15 ≡ b15
+    → made a1 a2 a3 a4 a5 a6 a7 a8 a9 a10 a11 a12 a13 a14 a15 ≡ made b1 b2 b3 b4 b5 b6 b7 b8 b9 b10 b11 b12 b13 b14 b15
+same_made a1 a2 a3 a4 a5 a6 a7 b1 b2 b3 b4 b5 b6 b7 a8 a9 a10 a11 a12 a13 a14 b8 b9 b10 b11 b12 b13 b14 a15 b15 e1 e2 e3 e4 e5 e6 e7
+    e8 e9 e10 e11 e12 e13 e14 e15 =
+    rw (e1, e2, e3, e4, e5, e6, e7, e8, e9, e10, e11, e12, e13, e14, e15) refl
 
 are_collected : (f : Found) (o : Options) (parts : List Part) (end : List Row) → IsFound f o → AreKnown parts → put_all [] parts ≡ Some end
     → rows_of f ≡ with_flags end
     → o ≡ collected parts
 are_collected f o parts end found known put rows =
     let sp_file : o.sp_file ≡ value_of (codes "sp-file") parts = found.sp_file
-    ∙ sym (value_at (codes "sp-file") refl (no_flag (codes "sp-file") (refl, (refl, (refl, (refl, (refl, (refl, tt))))))) f parts end known put rows) in
+    ∙ sym (value_at (codes "sp-file") refl (no_flag (codes "sp-file") (refl, (refl, (refl, (refl, (refl, (refl, (refl, tt)))))))) f parts end known put rows) in
     let iso_file : o.iso_file ≡ value_of (codes "iso-file") parts = found.iso_file
-    ∙ sym (value_at (codes "iso-file") refl (no_flag (codes "iso-file") (refl, (refl, (refl, (refl, (refl, (refl, tt))))))) f parts end known put rows) in
+    ∙ sym (value_at (codes "iso-file") refl (no_flag (codes "iso-file")
+    (refl, (refl, (refl, (refl, (refl, (refl, (refl, tt)))))))) f parts end known put rows) in
     let define : o.define ≡ value_of (codes "define") parts = found.define
-    ∙ sym (value_at (codes "define") refl (no_flag (codes "define") (refl, (refl, (refl, (refl, (refl, (refl, tt))))))) f parts end known put rows) in
+    ∙ sym (value_at (codes "define") refl (no_flag (codes "define") (refl, (refl, (refl, (refl, (refl, (refl, (refl, tt)))))))) f parts end known put rows) in
     let jobs : o.jobs ≡ value_of (codes "jobs") parts = found.jobs
-    ∙ sym (value_at (codes "jobs") refl (no_flag (codes "jobs") (refl, (refl, (refl, (refl, (refl, (refl, tt))))))) f parts end known put rows) in
+    ∙ sym (value_at (codes "jobs") refl (no_flag (codes "jobs") (refl, (refl, (refl, (refl, (refl, (refl, (refl, tt)))))))) f parts end known put rows) in
     let generate : o.generate ≡ value_of (codes "generate") parts = found.generate
-    ∙ sym (value_at (codes "generate") refl (no_flag (codes "generate") (refl, (refl, (refl, (refl, (refl, (refl, tt))))))) f parts end known put rows) in
+    ∙ sym (value_at (codes "generate") refl (no_flag (codes "generate")
+    (refl, (refl, (refl, (refl, (refl, (refl, (refl, tt)))))))) f parts end known put rows) in
     let functions : o.functions ≡ value_of (codes "functions") parts = found.functions
-    ∙ sym (value_at (codes "functions") refl (no_flag (codes "functions") (refl, (refl, (refl, (refl, (refl, (refl, tt))))))) f parts end known put rows) in
+    ∙ sym (value_at (codes "functions") refl
+    (no_flag (codes "functions") (refl, (refl, (refl, (refl, (refl, (refl, (refl, tt)))))))) f parts end known put rows) in
     let unread : o.unread ≡ value_of (codes "unread") parts = found.unread
-    ∙ sym (value_at (codes "unread") refl (no_flag (codes "unread") (refl, (refl, (refl, (refl, (refl, (refl, tt))))))) f parts end known put rows) in
+    ∙ sym (value_at (codes "unread") refl (no_flag (codes "unread") (refl, (refl, (refl, (refl, (refl, (refl, (refl, tt)))))))) f parts end known put rows) in
     let witnesses : o.witnesses ≡ has_flag (codes "witnesses") parts = found.witnesses (has_flag (codes "witnesses") parts)
     (flag_at (codes "witnesses") refl (no_valued (codes "witnesses") (refl, (refl, (refl, (refl, (refl, (refl, (refl, tt)))))))) f parts end known put rows
     ∙ witnesses_read (has_flag (codes "witnesses") parts)) in
@@ -321,6 +330,9 @@ are_collected f o parts end found known put rows =
     let quiet : o.quiet ≡ has_flag (codes "quiet") parts = found.quiet (has_flag (codes "quiet") parts)
     (flag_at (codes "quiet") refl (no_valued (codes "quiet") (refl, (refl, (refl, (refl, (refl, (refl, (refl, tt)))))))) f parts end known put rows
     ∙ quiet_read (has_flag (codes "quiet") parts)) in
+    let tidy : o.tidy ≡ has_flag (codes "tidy") parts = found.tidy (has_flag (codes "tidy") parts)
+    (flag_at (codes "tidy") refl (no_valued (codes "tidy") (refl, (refl, (refl, (refl, (refl, (refl, (refl, tt)))))))) f parts end known put rows
+    ∙ tidy_read (has_flag (codes "tidy") parts)) in
     let help : o.help ≡ has_flag (codes "help") parts = found.help (has_flag (codes "help") parts)
     (flag_at (codes "help") refl (no_valued (codes "help") (refl, (refl, (refl, (refl, (refl, (refl, (refl, tt)))))))) f parts end known put rows
     ∙ help_read (has_flag (codes "help") parts)) in
@@ -328,8 +340,8 @@ are_collected f o parts end found known put rows =
     (flag_at (codes "version") refl (no_valued (codes "version") (refl, (refl, (refl, (refl, (refl, (refl, (refl, tt)))))))) f parts end known put rows
     ∙ version_read (has_flag (codes "version") parts)) in
     let files : o.files ≡ files_in parts = found.files ∙ files_found f parts end known put rows in
-    same_made _ _ _ _ _ _ _ _ _ _ _ _ _ _ _ _ _ _ _ _ _ _ _ _ _ _ _ _ sp_file iso_file define jobs generate functions unread
-    witnesses in_place check quiet help version files
+    same_made _ _ _ _ _ _ _ _ _ _ _ _ _ _ _ _ _ _ _ _ _ _ _ _ _ _ _ _ _ _ sp_file iso_file define jobs generate functions unread
+    witnesses in_place check quiet tidy help version files
 
 no_names : (name : Text) → bytes_eq (codes "FILE") name ≡ false → false ≡ false
 no_names name h = refl

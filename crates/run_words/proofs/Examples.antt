@@ -88,7 +88,7 @@ unfolding options_of parts_from
 twice = refl
 
 a_file : order_of (codes "k.c" ∷ codes "--sp-file=p" ∷ codes "--witnesses" ∷ [])
-    ≡ Some (Apply (codes "p") None [] (OnFiles (record { witnesses = true; in_place = false; check = false; quiet = false; unread = unread.All })
+    ≡ Some (Apply (codes "p") None [] (OnFiles (record { witnesses = true; in_place = false; check = false; quiet = false; unread = unread.All; tidy = false })
     (codes "k.c" ∷ [])))
 unfolding order_of ordered working options_of parts_from is_utf8 chars encode_utf8
 a_file = refl
@@ -103,7 +103,8 @@ unfolding order_of ordered working options_of parts_from is_utf8 chars encode_ut
 empty_value = refl
 
 empty_word : order_of (codes "--sp-file=p" ∷ [] ∷ [])
-    ≡ Some (Apply (codes "p") None [] (OnFiles (record { witnesses = false; in_place = false; check = false; quiet = false; unread = unread.All }) ([] ∷ [])))
+    ≡ Some (Apply (codes "p") None [] (OnFiles (record { witnesses = false; in_place = false; check = false; quiet = false; unread = unread.All; tidy = false })
+    ([] ∷ [])))
 unfolding order_of ordered working options_of parts_from is_utf8 chars encode_utf8
 empty_word = refl
 
@@ -117,7 +118,7 @@ unfolding order_of ordered working options_of parts_from is_utf8 chars encode_ut
 jobs_of_a_text = refl
 
 a_patch_on_a_text : order_of (codes "--generate=1" ∷ codes "--functions=2" ∷ codes "--jobs=3" ∷ codes "--sp-file=p" ∷ []) ≡ Some (Apply
-    (codes "p") None [] (OnText 1 2 false unread.All))
+    (codes "p") None [] (OnText 1 2 false unread.All false))
 unfolding order_of ordered working options_of parts_from is_utf8 chars encode_utf8
 a_patch_on_a_text = refl
 
@@ -125,7 +126,7 @@ a_patch_on_a_text = refl
 
 -- a report is printed where there is one, and the status says whether something was found
 checked_report : order_of (codes "--check" ∷ codes "--sp-file=p" ∷ codes "--witnesses" ∷ codes "k.c" ∷ [])
-    ≡ Some (Apply (codes "p") None [] (OnFiles (record { witnesses = true; in_place = false; check = true; quiet = false; unread = unread.All })
+    ≡ Some (Apply (codes "p") None [] (OnFiles (record { witnesses = true; in_place = false; check = true; quiet = false; unread = unread.All; tidy = false })
     (codes "k.c" ∷ [])))
 unfolding order_of ordered working options_of parts_from is_utf8 chars encode_utf8
 checked_report = refl
@@ -140,14 +141,14 @@ unfolding order_of ordered working options_of parts_from is_utf8 chars encode_ut
 checked_text = refl
 
 stored_quietly : order_of (codes "--quiet" ∷ codes "--sp-file=p" ∷ codes "--in-place" ∷ codes "k.c" ∷ [])
-    ≡ Some (Apply (codes "p") None [] (OnFiles (record { witnesses = false; in_place = true; check = false; quiet = true; unread = unread.All })
+    ≡ Some (Apply (codes "p") None [] (OnFiles (record { witnesses = false; in_place = true; check = false; quiet = true; unread = unread.All; tidy = false })
     (codes "k.c" ∷ [])))
 unfolding order_of ordered working options_of parts_from is_utf8 chars encode_utf8
 stored_quietly = refl
 
 -- a generated text alone has no further lines to leave out
 quiet_on_a_text : order_of (codes "--generate=1" ∷ codes "--functions=2" ∷ codes "--quiet" ∷ codes "--sp-file=p" ∷ []) ≡ Some (Apply
-    (codes "p") None [] (OnText 1 2 true unread.All))
+    (codes "p") None [] (OnText 1 2 true unread.All false))
 unfolding order_of ordered working options_of parts_from is_utf8 chars encode_utf8
 quiet_on_a_text = refl
 
@@ -158,13 +159,14 @@ quiet_text = refl
 -- ---- which items that can't be read are told of
 
 none_told : order_of (codes "--sp-file=p" ∷ codes "--unread" ∷ codes "none" ∷ codes "k.c" ∷ [])
-    ≡ Some (Apply (codes "p") None [] (OnFiles (record { witnesses = false; in_place = false; check = false; quiet = false; unread = unread.None })
+    ≡ Some (Apply (codes "p") None [] (OnFiles
+    (record { witnesses = false; in_place = false; check = false; quiet = false; unread = unread.None; tidy = false })
     (codes "k.c" ∷ [])))
 unfolding order_of ordered working options_of parts_from is_utf8 chars encode_utf8
 none_told = refl
 
 needed_on_a_text : order_of (codes "--generate=1" ∷ codes "--functions=2" ∷ codes "--unread=needed" ∷ codes "--sp-file=p" ∷ [])
-    ≡ Some (Apply (codes "p") None [] (OnText 1 2 false unread.Needed))
+    ≡ Some (Apply (codes "p") None [] (OnText 1 2 false unread.Needed false))
 unfolding order_of ordered working options_of parts_from is_utf8 chars encode_utf8
 needed_on_a_text = refl
 
@@ -176,6 +178,35 @@ unread_text = refl
 some_told : order_of (codes "--sp-file=p" ∷ codes "--unread=some" ∷ codes "k.c" ∷ []) ≡ None
 unfolding order_of ordered working options_of parts_from is_utf8 chars encode_utf8
 some_told = refl
+
+-- ---- edited texts that are tidied
+
+tidy_files : order_of (codes "--tidy" ∷ codes "--sp-file=p" ∷ codes "--in-place" ∷ codes "k.c" ∷ [])
+    ≡ Some (Apply (codes "p") None [] (OnFiles (record { witnesses = false; in_place = true; check = false; quiet = false; unread = unread.All; tidy = true })
+    (codes "k.c" ∷ [])))
+unfolding order_of ordered working options_of parts_from is_utf8 chars encode_utf8
+tidy_files = refl
+
+-- what is found may depend on how the rules before leave the text, so the word goes with reports too
+tidy_report : order_of (codes "--sp-file=p" ∷ codes "--check" ∷ codes "--witnesses" ∷ codes "--tidy" ∷ codes "k.c" ∷ [])
+    ≡ Some (Apply (codes "p") None [] (OnFiles (record { witnesses = true; in_place = false; check = true; quiet = false; unread = unread.All; tidy = true })
+    (codes "k.c" ∷ [])))
+unfolding order_of ordered working options_of parts_from is_utf8 chars encode_utf8
+tidy_report = refl
+
+tidy_on_a_text : order_of (codes "--generate=1" ∷ codes "--functions=2" ∷ codes "--tidy" ∷ codes "--sp-file=p" ∷ [])
+    ≡ Some (Apply (codes "p") None [] (OnText 1 2 false unread.All true))
+unfolding order_of ordered working options_of parts_from is_utf8 chars encode_utf8
+tidy_on_a_text = refl
+
+-- a text alone isn't edited
+tidy_text : order_of (codes "--generate=1" ∷ codes "--functions=2" ∷ codes "--tidy" ∷ []) ≡ None
+unfolding order_of ordered working options_of parts_from is_utf8 chars encode_utf8
+tidy_text = refl
+
+tidy_twice : order_of (codes "--tidy" ∷ codes "--sp-file=p" ∷ codes "--tidy" ∷ codes "k.c" ∷ []) ≡ None
+unfolding order_of ordered working options_of parts_from is_utf8 chars encode_utf8
+tidy_twice = refl
 
 -- ---- jobs
 
@@ -268,6 +299,14 @@ generate_and_check = refl
 quiet_needs_a_patch : word_fault (codes "--generate=1" ∷ codes "--functions=1" ∷ codes "--quiet" ∷ []) ≡ Some (Needed need.Patch)
 unfolding word_fault fault_from options_fault options_of parts_from is_utf8 chars encode_utf8
 quiet_needs_a_patch = refl
+
+tidy_needs_a_patch : word_fault (codes "--tidy" ∷ codes "--generate=1" ∷ codes "--functions=1" ∷ []) ≡ Some (Needed need.Patch)
+unfolding word_fault fault_from options_fault options_of parts_from is_utf8 chars encode_utf8
+tidy_needs_a_patch = refl
+
+tidy_takes_no_value : word_fault (codes "--sp-file=p" ∷ codes "--tidy=on" ∷ codes "k.c" ∷ []) ≡ Some (TakesNone (codes "--tidy"))
+unfolding word_fault fault_from options_fault options_of parts_from is_utf8 chars encode_utf8
+tidy_takes_no_value = refl
 
 unread_needs_a_patch : word_fault (codes "--generate=1" ∷ codes "--functions=1" ∷ codes "--unread=none" ∷ []) ≡ Some (Needed need.Patch)
 unfolding word_fault fault_from options_fault options_of parts_from is_utf8 chars encode_utf8

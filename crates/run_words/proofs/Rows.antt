@@ -125,7 +125,7 @@ valued_no_file : (name : Text) → is_in valued_options name ≡ true → bytes_
 valued_no_file name = of_one (λ n. bytes_eq n (codes "FILE") ≡ false) valued_options name (refl, (refl, (refl, (refl, (refl, (refl, (refl, tt)))))))
 
 flag_no_file : (name : Text) → is_in flag_options name ≡ true → bytes_eq name (codes "FILE") ≡ false
-flag_no_file name = of_one (λ n. bytes_eq n (codes "FILE") ≡ false) flag_options name (refl, (refl, (refl, (refl, (refl, (refl, tt))))))
+flag_no_file name = of_one (λ n. bytes_eq n (codes "FILE") ≡ false) flag_options name (refl, (refl, (refl, (refl, (refl, (refl, (refl, tt)))))))
 
 -- ---- all parts
 

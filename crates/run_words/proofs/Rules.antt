@@ -56,7 +56,8 @@ abbrev pub spatch_rules : List Rule
 spatch_rules = valued_rule (codes "sp-file") ∷ valued_rule (codes "iso-file") ∷ valued_rule (codes "define") ∷ valued_rule (codes "jobs")
     ∷ valued_rule (codes "generate") ∷ valued_rule (codes "functions") ∷ valued_rule (codes "unread")
     ∷ flag_rule (codes "witnesses") ∷ flag_rule (codes "in-place")
-    ∷ flag_rule (codes "check") ∷ flag_rule (codes "quiet") ∷ flag_rule (codes "help") ∷ flag_rule (codes "version") ∷ file_rule ∷ []
+    ∷ flag_rule (codes "check") ∷ flag_rule (codes "quiet") ∷ flag_rule (codes "tidy") ∷ flag_rule (codes "help")
+    ∷ flag_rule (codes "version") ∷ file_rule ∷ []
 
 differs : (word name : List ℕ) → bytes_eq name word ≡ false → bytes_eq word name ≡ false
 differs word name h = bytes_eq_sym word name ∙ h
@@ -69,7 +70,7 @@ valued_long name = of_one (λ n. arg_by_long spatch.rules n ≡ Some (valued_rul
 flag_long : (name : List ℕ) → is_in flag_options name ≡ true → arg_by_long spatch.rules name ≡ Some (flag_rule name)
 unfolding spatch_app
 flag_long name = of_one (λ n. arg_by_long spatch.rules n ≡ Some (flag_rule n)) flag_options name
-    (refl, (refl, (refl, (refl, (refl, (refl, tt))))))
+    (refl, (refl, (refl, (refl, (refl, (refl, (refl, tt)))))))
 
 valued_id : (name : List ℕ) → is_in valued_options name ≡ true → arg_by_id spatch.rules name ≡ Some (valued_rule name)
 unfolding spatch_app
@@ -96,13 +97,14 @@ other_long name v f =
     let f4 = or_parts _ _ f3.1 in
     let f5 = or_parts _ _ f4.1 in
     let f6 = or_parts _ _ f5.1 in
+    let f7 = or_parts _ _ f6.1 in
     passed _ _ _ (differs (codes "sp-file") name v1.0) (passed _ _ _ (differs (codes "iso-file") name v2.0) (passed _ _ _ (differs (codes "define") name v3.0)
     (passed _ _ _ (differs (codes "jobs") name v4.0) (passed _ _ _ (differs (codes "generate") name v5.0)
     (passed _ _ _ (differs (codes "functions") name v6.0) (passed _ _ _ (differs (codes "unread") name v7.0)
     (passed _ _ _ (differs (codes "witnesses") name f1.0)
     (passed _ _ _ (differs (codes "in-place") name f2.0) (passed _ _ _ (differs (codes "check") name f3.0)
-    (passed _ _ _ (differs (codes "quiet") name f4.0) (passed _ _ _ (differs (codes "help") name f5.0)
-    (passed _ _ _ (differs (codes "version") name f6.0) refl))))))))))))
+    (passed _ _ _ (differs (codes "quiet") name f4.0) (passed _ _ _ (differs (codes "tidy") name f5.0)
+    (passed _ _ _ (differs (codes "help") name f6.0) (passed _ _ _ (differs (codes "version") name f7.0) refl)))))))))))))
 
 pub spatch_serves : Serves spatch
 unfolding spatch_app

@@ -15,16 +15,16 @@ use Rattle.run_words.specs.Faults.{apart_fault, edit_faults, file_faults, need_f
 use Rattle.run_words.proofs.ValueLaws.{bad, both_or, fine, none_fine, or_last, some_cond, some_first, some_need, some_then}
 use Rattle.run_words.proofs.ValueLaws.{some_three, some_told, some_unless, values_left}
 
-by_patch : (patch : Option (List ℕ)) (quiet about : Bool) (unread : Unread) (seed functions : ℕ)
-    → is_some (option_map_or (λ name. Some (Apply name None [] (OnText seed functions quiet unread))) patch
+by_patch : (patch : Option (List ℕ)) (quiet about tidy : Bool) (unread : Unread) (seed functions : ℕ)
+    → is_some (option_map_or (λ name. Some (Apply name None [] (OnText seed functions quiet unread tidy))) patch
     (cond about None (Some (AskedGenerate seed functions))))
     ≡ not (not (is_some patch) && about)
-by_patch (Some name) quiet about unread seed functions = refl
-by_patch None quiet true unread seed functions = refl
-by_patch None quiet false unread seed functions = refl
+by_patch (Some name) quiet about tidy unread seed functions = refl
+by_patch None quiet true tidy unread seed functions = refl
+by_patch None quiet false tidy unread seed functions = refl
 
 text_some : (o : Options) (seed functions : ℕ) → is_some (on_text o seed functions) ≡ not (not (is_some o.sp_file) && is_about_patches o)
-text_some o seed functions = by_patch o.sp_file o.quiet (is_about_patches o) (told_in o) seed functions
+text_some o seed functions = by_patch o.sp_file o.quiet (is_about_patches o) o.tidy (told_in o) seed functions
 
 counted : (functions : Option (List ℕ)) (next : ℕ → Option Order) (b : Bool) → ((n : ℕ) → is_some (next n) ≡ b)
     → is_some (option_and_then (λ text. option_and_then next (count_in most_functions text)) functions)

@@ -20,7 +20,7 @@ bare_app = record (new_app (codes "spatch")) {
 
 unfoldable pub spatch_app : App
 spatch_app = with_rule (with_rule (with_rule (with_rule (with_rule (with_rule (with_rule (with_rule (with_rule (with_rule (with_rule (with_rule
-    (with_rule (with_rule bare_app (valued_new (codes "sp-file"))) (valued_new (codes "iso-file"))) (valued_new (codes "define")))
+    (with_rule (with_rule (with_rule bare_app (valued_new (codes "sp-file"))) (valued_new (codes "iso-file"))) (valued_new (codes "define")))
     (valued_new (codes "jobs"))) (valued_new (codes "generate"))) (valued_new (codes "functions"))) (valued_new (codes "unread")))
     (flag_new (codes "witnesses"))) (flag_new (codes "in-place"))) (flag_new (codes "check"))) (flag_new (codes "quiet")))
-    (flag_new (codes "help"))) (flag_new (codes "version"))) files_new
+    (flag_new (codes "tidy"))) (flag_new (codes "help"))) (flag_new (codes "version"))) files_new

@@ -74,8 +74,8 @@ value_fault o = first_of (value_faults o)
 abbrev pub told_if : Bool → WordFault → Option WordFault
 told_if holds fault = cond holds (Some fault) None
 
--- a patch is needed without `--generate`, and for `--jobs`, `--quiet` and `--unread`; a file without `--generate`; and the number
--- of functions with it
+-- a patch is needed without `--generate`, and for `--jobs`, `--quiet`, `--unread` and `--tidy`; a file without `--generate`; and the
+-- number of functions with it
 abbrev pub lacks_patch : Options → Bool
 lacks_patch o = not (is_some o.sp_file) && (not (is_some o.generate) || is_about_patches o)
 

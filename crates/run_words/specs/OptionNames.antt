@@ -7,7 +7,7 @@ use Rattle.strsim.specs.Edits.{levenshtein_row}
 use Rattle.c_lexer.specs.Words.{is_in}
 use Rattle.run_words.specs.declared.option_name.OptionName.{OptionName}
 use Rattle.run_words.specs.declared.option_name.OptionName.TheVariants.{SpFile, IsoFile, Define, Jobs, Generate, Functions, Unread}
-use Rattle.run_words.specs.declared.option_name.OptionName.TheVariants.{Witnesses, InPlace, Check, Quiet, Help, Version}
+use Rattle.run_words.specs.declared.option_name.OptionName.TheVariants.{Witnesses, InPlace, Check, Quiet, Tidy, Help, Version}
 use Rattle.run_words.specs.Parts.{name_part}
 
 abbrev pub option_text : OptionName → List ℕ
@@ -22,13 +22,14 @@ option_text Witnesses = codes "--witnesses"
 option_text InPlace = codes "--in-place"
 option_text Check = codes "--check"
 option_text Quiet = codes "--quiet"
+option_text Tidy = codes "--tidy"
 option_text Help = codes "--help"
 option_text Version = codes "--version"
 
 -- those that take a value, and then those that take none
 abbrev pub all_options : List OptionName
-all_options = SpFile ∷ IsoFile ∷ Define ∷ Jobs ∷ Generate ∷ Functions ∷ Unread ∷ Witnesses ∷ InPlace ∷ Check ∷ Quiet ∷ Help
-    ∷ Version ∷ []
+all_options = SpFile ∷ IsoFile ∷ Define ∷ Jobs ∷ Generate ∷ Functions ∷ Unread ∷ Witnesses ∷ InPlace ∷ Check ∷ Quiet ∷ Tidy
+    ∷ Help ∷ Version ∷ []
 
 -- the first of these that there is
 abbrev pub first_of : {X : Type 0} → List (Option X) → Option X

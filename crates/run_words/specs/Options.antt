@@ -16,6 +16,7 @@ pub record Options : Type 0 where
   pub in_place : Bool
   pub check : Bool
   pub quiet : Bool
+  pub tidy : Bool
   pub help : Bool
   pub version : Bool
   -- in this order
@@ -61,6 +62,7 @@ collected parts = record {
   in_place = has_flag (codes "in-place") parts;
   check = has_flag (codes "check") parts;
   quiet = has_flag (codes "quiet") parts;
+  tidy = has_flag (codes "tidy") parts;
   help = has_flag (codes "help") parts;
   version = has_flag (codes "version") parts;
   files = files_in parts;

@@ -1,5 +1,5 @@
 -- What the words of a command line ask for.
-use Rattle.std.specs.Prelude.{ℕ, ◌&&◌, ◌||◌, Bool, true, not, cond, nat_le, List, [], length, Option, None, Some, is_some, option_and_then, option_map}
+use Rattle.std.specs.Prelude.{ℕ, ◌&&◌, ◌||◌, Bool, true, false, not, cond, nat_le, List, [], length, Option, None, Some, is_some, option_and_then, option_map}
 use Rattle.std.specs.List.{list_all}
 use Rattle.std.specs.Str.{is_utf8}
 use Rattle.std.specs.Option.{option_map_or}
@@ -15,9 +15,9 @@ use Rattle.run_words.specs.Values.{seed_in, count_in, decimal_value, names_in, u
 pub data Target : Type 0 where
   -- files, in this order
   OnFiles : (mode : Mode) (names : List (List ℕ)) → Target
-  -- the text that is generated from this seed, with this many functions; whether further lines are left out, and which items
-  -- that can't be read are told of
-  OnText : (seed functions : ℕ) (quiet : Bool) (unread : Unread) → Target
+  -- the text that is generated from this seed, with this many functions; whether further lines are left out, which items that
+  -- can't be read are told of, and whether the edited text is tidied
+  OnText : (seed functions : ℕ) (quiet : Bool) (unread : Unread) (tidy : Bool) → Target
 
 pub data Order : Type 0 where
   -- the patch of this name, under the isomorphisms of this name, with these virtual names, is applied
@@ -30,12 +30,23 @@ pub data Order : Type 0 where
 -- the lines that say more are left out
 abbrev pub is_quiet : Target → Bool
 is_quiet (OnFiles mode names) = mode.quiet
-is_quiet (OnText seed functions quiet unread) = quiet
+is_quiet (OnText seed functions quiet unread tidy) = quiet
 
 -- which items that can't be read are told of
 abbrev pub unread_of : Target → Unread
 unread_of (OnFiles mode names) = mode.unread
-unread_of (OnText seed functions quiet unread) = unread
+unread_of (OnText seed functions quiet unread tidy) = unread
+
+-- the edited text is tidied
+abbrev pub is_tidy : Target → Bool
+is_tidy (OnFiles mode names) = mode.tidy
+is_tidy (OnText seed functions quiet unread tidy) = tidy
+
+-- edited texts are tidied
+abbrev pub is_tidied : Order → Bool
+is_tidied (Apply patch isos defined target) = is_tidy target
+is_tidied (Generate seed functions) = false
+is_tidied (Say saying) = false
 
 -- ---- values
 
@@ -79,7 +90,7 @@ abbrev pub has_files : Options → Bool
 has_files o = nat_le 1 (length o.files)
 
 abbrev pub mode_in : Options → Mode
-mode_in o = record { witnesses = o.witnesses; in_place = o.in_place; check = o.check; quiet = o.quiet; unread = told_in o }
+mode_in o = record { witnesses = o.witnesses; in_place = o.in_place; check = o.check; quiet = o.quiet; unread = told_in o; tidy = o.tidy }
 
 -- something is given that is only allowed with files
 abbrev pub is_about_files : Options → Bool
@@ -91,7 +102,7 @@ stores_checked o = o.check && o.in_place
 
 -- something is given that is only allowed with a patch
 abbrev pub is_about_patches : Options → Bool
-is_about_patches o = is_some o.jobs || o.quiet || is_some o.unread
+is_about_patches o = is_some o.jobs || o.quiet || is_some o.unread || o.tidy
 
 -- without `--generate`: a patch and a file are required
 abbrev pub editing : Options → Option Order
@@ -100,7 +111,7 @@ editing o = cond (has_files o && not (is_some o.functions) && not (stores_checke
 
 -- with `--generate`: the text is printed, or a patch is applied to it
 abbrev pub on_text : Options → ℕ → ℕ → Option Order
-on_text o seed functions = option_map_or (λ patch. Some (Apply patch None [] (OnText seed functions o.quiet (told_in o)))) o.sp_file
+on_text o seed functions = option_map_or (λ patch. Some (Apply patch None [] (OnText seed functions o.quiet (told_in o) o.tidy))) o.sp_file
     (cond (is_about_patches o) None (Some (Generate seed functions)))
 
 abbrev pub generating : Options → List ℕ → Option Order
@@ -126,6 +137,10 @@ ordered o = cond (are_filled o) (cond (asks_text o) (Some (Say (saying_in o))) (
 -- what the words ask for; nothing if they are no command, for example if one of them isn't UTF-8
 unfoldable pub order_of : List (List ℕ) → Option Order
 order_of words = cond (list_all is_utf8 words) (option_and_then ordered (options_of words)) None
+
+-- the words ask for edited texts that are tidied
+abbrev pub asks_tidy : List (List ℕ) → Bool
+asks_tidy words = option_map_or is_tidied (order_of words) false
 
 -- the maximum number of concurrent jobs, if the words ask for a patch to be applied
 unfoldable pub jobs_of : List (List ℕ) → ℕ

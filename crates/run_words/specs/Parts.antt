@@ -33,7 +33,7 @@ valued_options = codes "sp-file" ∷ codes "iso-file" ∷ codes "define" ∷ cod
     ∷ codes "unread" ∷ []
 
 abbrev pub flag_options : List (List ℕ)
-flag_options = codes "witnesses" ∷ codes "in-place" ∷ codes "check" ∷ codes "quiet" ∷ codes "help" ∷ codes "version" ∷ []
+flag_options = codes "witnesses" ∷ codes "in-place" ∷ codes "check" ∷ codes "quiet" ∷ codes "tidy" ∷ codes "help" ∷ codes "version" ∷ []
 
 -- the word begins with `-` and is longer than one byte
 abbrev pub is_option : List ℕ → Bool

@@ -15,7 +15,7 @@ use Rattle.run_words.specs.Orders.{Target, OnFiles, OnText, Order, Apply, Genera
 
 abbrev pub shown_target : CodeTarget → Target
 shown_target (target.Files mode names) = OnFiles mode (map (λ name. name.now) names.items)
-shown_target (target.Text seed functions quiet unread) = OnText seed functions quiet unread
+shown_target (target.Text seed functions quiet unread tidy) = OnText seed functions quiet unread tidy
 
 abbrev pub shown_isos : Option (Bor (List ℕ)) → Option (List ℕ)
 shown_isos isos = option_map (λ name. name.now) isos
@@ -34,7 +34,7 @@ HasJobs jobs (order.Say saying) = Unit {0}
 -- a generated text has at most 100,000 functions
 abbrev pub few_functions : CodeTarget → Type 0
 few_functions (target.Files mode names) = Unit {0}
-few_functions (target.Text seed functions quiet unread) = functions ≤ 100000
+few_functions (target.Text seed functions quiet unread tidy) = functions ≤ 100000
 
 -- ---- internal to the crate
 
@@ -54,6 +54,7 @@ shown_options g = record {
   in_place = g.in_place;
   check = g.check;
   quiet = g.quiet;
+  tidy = g.tidy;
   help = g.help;
   version = g.version;
   files = map (λ name. name.now) g.files.items;
@@ -72,6 +73,7 @@ pub record IsFound (f : Found) (o : Options) : Type 0 where
   pub in_place : (b : Bool) → one_text f (codes "in-place") ≡ Some (bool_text b) → o.in_place ≡ b
   pub check : (b : Bool) → one_text f (codes "check") ≡ Some (bool_text b) → o.check ≡ b
   pub quiet : (b : Bool) → one_text f (codes "quiet") ≡ Some (bool_text b) → o.quiet ≡ b
+  pub tidy : (b : Bool) → one_text f (codes "tidy") ≡ Some (bool_text b) → o.tidy ≡ b
   pub help : (b : Bool) → one_text f (codes "help") ≡ Some (bool_text b) → o.help ≡ b
   pub version : (b : Bool) → one_text f (codes "version") ≡ Some (bool_text b) → o.version ≡ b
   pub files : o.files ≡ option_map_or raw_values (matched_of f (codes "FILE")) []

@@ -1,4 +1,4 @@
-// Which lines on the error output are asked for.
+// Which lines on the error output are asked for, and whether edited texts are tidied.
 ghost use Rattle.std.specs.Prelude.{◌≡◌};
 ghost use Rattle.run_words.specs.Orders as spec;
 ghost use Rattle.run_words.specs.Shown.{shown_target};
@@ -13,7 +13,7 @@ impl<'a> Target<'a> {
     {
         match self {
             Target::Files(mode, _) => mode.quiet,
-            Target::Text(_, _, quiet, _) => *quiet,
+            Target::Text(_, _, quiet, _, _) => *quiet,
         }
     }
 
@@ -23,7 +23,17 @@ impl<'a> Target<'a> {
     {
         match self {
             Target::Files(mode, _) => mode.unread,
-            Target::Text(_, _, _, unread) => *unread,
+            Target::Text(_, _, _, unread, _) => *unread,
+        }
+    }
+
+    /// Whether the edited texts are tidied.
+    pub fn is_tidy(&self) -> bool
+        ensures tidy { result ≡ spec.is_tidy (shown_target self.now) }
+    {
+        match self {
+            Target::Files(mode, _) => mode.tidy,
+            Target::Text(_, _, _, _, tidy) => *tidy,
         }
     }
 }

@@ -20,6 +20,7 @@ pub enum OptionName {
     InPlace,
     Check,
     Quiet,
+    Tidy,
     Help,
     Version,
 }
@@ -41,6 +42,7 @@ impl OptionName {
             OptionName::InPlace => "--in-place",
             OptionName::Check => "--check",
             OptionName::Quiet => "--quiet",
+            OptionName::Tidy => "--tidy",
             OptionName::Help => "--help",
             OptionName::Version => "--version",
         }
@@ -102,6 +104,7 @@ pub fn meant_by(alloc: Global, word: &str) -> Result<Option<OptionName>, NoMemor
     let in_place = near_one(alloc, word, OptionName::InPlace)?;
     let check = near_one(alloc, word, OptionName::Check)?;
     let quiet = near_one(alloc, word, OptionName::Quiet)?;
+    let tidy = near_one(alloc, word, OptionName::Tidy)?;
     let help = near_one(alloc, word, OptionName::Help)?;
     let version = near_one(alloc, word, OptionName::Version)?;
     let valued = patch
@@ -117,6 +120,7 @@ pub fn meant_by(alloc: Global, word: &str) -> Result<Option<OptionName>, NoMemor
             .or(in_place)
             .or(check)
             .or(quiet)
+            .or(tidy)
             .or(help)
             .or(version),
     )

@@ -55,6 +55,7 @@ fn command<'a>(alloc: Global) -> Result<Command<'a>, AllocError>
         .arg(flag(alloc, "in-place"))?
         .arg(flag(alloc, "check"))?
         .arg(flag(alloc, "quiet"))?
+        .arg(flag(alloc, "tidy"))?
         .arg(flag(alloc, "help"))?
         .arg(flag(alloc, "version"))?
         .arg(files(alloc))
@@ -74,6 +75,7 @@ pub struct Given<'a> {
     pub in_place: bool,
     pub check: bool,
     pub quiet: bool,
+    pub tidy: bool,
     pub help: bool,
     pub version: bool,
     pub files: Vec<&'a str>,
@@ -105,6 +107,7 @@ fn read<'a>(alloc: Global, matches: &ArgMatches<'a>) -> Result<Given<'a>, AllocE
         in_place: matches.get_flag("in-place"),
         check: matches.get_flag("check"),
         quiet: matches.get_flag("quiet"),
+        tidy: matches.get_flag("tidy"),
         help: matches.get_flag("help"),
         version: matches.get_flag("version"),
         files,

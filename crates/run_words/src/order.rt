@@ -18,6 +18,8 @@ pub struct Mode {
     pub quiet: bool,
     /// Which of the items that can't be read are told of.
     pub unread: Unread,
+    /// The edited text is tidied.
+    pub tidy: bool,
 }
 
 /// What a patch is applied to.
@@ -25,9 +27,9 @@ pub struct Mode {
 pub enum Target<'a> {
     /// Files, in this order.
     Files(Mode, Vec<&'a str>),
-    /// The text that is generated from this seed, with this many functions. The last two say whether the lines that say more
-    /// are left out, and which of the items that can't be read are told of.
-    Text(u64, u32, bool, Unread),
+    /// The text that is generated from this seed, with this many functions. The last three say whether the lines that say more
+    /// are left out, which of the items that can't be read are told of, and whether the edited text is tidied.
+    Text(u64, u32, bool, Unread, bool),
 }
 
 /// A request to apply a patch.

@@ -77,6 +77,7 @@ fn is_flag(text: &str) -> bool
         || text == "--in-place"
         || text == "--check"
         || text == "--quiet"
+        || text == "--tidy"
         || text == "--help"
         || text == "--version"
 }

@@ -53,6 +53,7 @@ fn is_flag(name: &[u8]) -> bool
         || name == b"in-place".as_slice()
         || name == b"check".as_slice()
         || name == b"quiet".as_slice()
+        || name == b"tidy".as_slice()
         || name == b"help".as_slice()
         || name == b"version".as_slice()
 }

@@ -202,7 +202,7 @@ pub fn stores_checked(given: &Given<'_>) -> bool
 pub fn is_about_patches(given: &Given<'_>) -> bool
     ensures { result ≡ spec.is_about_patches (shown_options given.now) }
 {
-    given.jobs.is_some() || given.quiet || given.unread.is_some()
+    given.jobs.is_some() || given.quiet || given.unread.is_some() || given.tidy
 }
 
 /// Returns what is asked for with a seed.
@@ -229,7 +229,7 @@ fn on_text<'a>(alloc: Global, given: &Given<'a>, seed: u64, functions: u32) -> O
             patch,
             isos: None,
             defined: Vec::new(alloc),
-            target: Target::Text(seed, functions, given.quiet, told_in(given)),
+            target: Target::Text(seed, functions, given.quiet, told_in(given), given.tidy),
             jobs: jobs_of(given),
         })),
         None => {
@@ -263,6 +263,7 @@ fn editing<'a>(alloc: Global, given: Given<'a>) -> Result<Option<Order<'a>>, NoM
         check: given.check,
         quiet: given.quiet,
         unread: told_in(&given),
+        tidy: given.tidy,
     };
     Ok(Some(Order::Apply(PatchOrder {
         patch,

@@ -18,7 +18,7 @@ use Rattle.run_words.specs.Shown.{shown_target, few_functions}
 
 abbrev HasFew : Target → Type 0
 HasFew (OnFiles mode names) = Unit {0}
-HasFew (OnText seed functions quiet unread) = functions ≤ 100000
+HasFew (OnText seed functions quiet unread tidy) = functions ≤ 100000
 
 abbrev AsksFew : Option Order → Type 0
 AsksFew None = Unit {0}
@@ -45,14 +45,15 @@ few_map f (Some a) few = few a
 few_editing : (o : Options) → AsksFew (editing o)
 few_editing o = few_cond _ _ (few_then _ o.sp_file (λ patch. few_map _ (defined_in o) (λ defined. tt)))
 
-few_patch : (patch : Option (List ℕ)) (seed functions : ℕ) (quiet : Bool) (unread : Unread) (rest : Option Order) → functions ≤ 100000 → AsksFew rest
-    → AsksFew (option_map_or (λ p. Some (Apply p None [] (OnText seed functions quiet unread))) patch rest)
-few_patch None seed functions quiet unread rest few more = more
-few_patch (Some p) seed functions quiet unread rest few more = few
+few_patch : (patch : Option (List ℕ)) (seed functions : ℕ) (quiet : Bool) (unread : Unread) (tidy : Bool) (rest : Option Order)
+    → functions ≤ 100000 → AsksFew rest
+    → AsksFew (option_map_or (λ p. Some (Apply p None [] (OnText seed functions quiet unread tidy))) patch rest)
+few_patch None seed functions quiet unread tidy rest few more = more
+few_patch (Some p) seed functions quiet unread tidy rest few more = few
 
 few_on_text : (o : Options) (seed functions : ℕ) → functions ≤ 100000 → AsksFew (on_text o seed functions)
 few_on_text o seed functions few =
-    few_patch o.sp_file seed functions o.quiet (told_in o) _ few (few_cond_not (is_about_patches o) (Some (Generate seed functions)) tt)
+    few_patch o.sp_file seed functions o.quiet (told_in o) o.tidy _ few (few_cond_not (is_about_patches o) (Some (Generate seed functions)) tt)
 
 le_of : (a b : ℕ) → nat_le a b ≡ true → a ≤ b
 le_of a b e = grind (arith, nat_tests)
@@ -102,8 +103,8 @@ few_asked words = few_cond (list_all is_utf8 words) _ (few_then ordered (options
 
 -- a generated text that is asked for has at most so many functions
 pub few_text : (words : List (List ℕ)) (patch : List ℕ) (isos : Option (List ℕ)) (defined : List (List ℕ)) (seed functions : ℕ) (quiet : Bool)
-    (unread : Unread) → order_of words ≡ Some (Apply patch isos defined (OnText seed functions quiet unread)) → functions ≤ 100000
-few_text words patch isos defined seed functions quiet unread is = subst AsksFew is (few_asked words)
+    (unread : Unread) (tidy : Bool) → order_of words ≡ Some (Apply patch isos defined (OnText seed functions quiet unread tidy)) → functions ≤ 100000
+few_text words patch isos defined seed functions quiet unread tidy is = subst AsksFew is (few_asked words)
 
 pub none_asked : (words : List (List ℕ)) → list_all is_utf8 words ≡ false → order_of words ≡ None
 unfolding order_of
@@ -111,7 +112,7 @@ none_asked words no_text = rw no_text refl
 
 few_shown : (target : CodeTarget) → HasFew (shown_target target) → few_functions target
 few_shown (target.Files mode names) few = tt
-few_shown (target.Text seed functions quiet unread) few = few
+few_shown (target.Text seed functions quiet unread tidy) few = few
 
 pub few_ordered : (words : List (List ℕ)) (patch : List ℕ) (isos : Option (List ℕ)) (defined : List (List ℕ))
     (target : CodeTarget) → order_of words ≡ Some (Apply patch isos defined (shown_target target)) → few_functions target

@@ -2,6 +2,7 @@
 pub mod Unique
 pub mod OnePath
 pub mod FilesWhy
+pub mod ReadyFiles
 pub mod Why
 pub mod Ways
 pub mod Checked

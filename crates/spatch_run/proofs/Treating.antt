@@ -218,18 +218,20 @@ module _ (patch : Patch) (defined : List (List ℕ)) (mode : Mode) (course : Cou
 
 -- ---- a generated text
 
--- the same items that can't be read are told of
+-- the same items that can't be read are told of, and the text is tidied in both or in neither
 pub leads_as : (patch : Patch) (notes : NoteLines) (defined : List (List ℕ)) (seed functions : ℕ) (quiet : Bool) (one two : Unread)
-    {before now : Counts} {old new : Observed} {status : ℕ} → one ≡ two
-    → LeadsBy (TargetLeads patch notes defined (OnText seed functions quiet one)) before now old new status
-    → LeadsBy (TargetLeads patch notes defined (OnText seed functions quiet two)) before now old new status
-leads_as patch notes defined seed functions quiet one two {before = before} {now = now} {old = old} {new = new} {status = status} same leads =
-    subst (λ (u : Unread). LeadsBy (TargetLeads patch notes defined (OnText seed functions quiet u)) before now old new status) same leads
+    (tidy left : Bool) {before now : Counts} {old new : Observed} {status : ℕ} → one ≡ two → tidy ≡ left
+    → LeadsBy (TargetLeads patch notes defined (OnText seed functions quiet one tidy)) before now old new status
+    → LeadsBy (TargetLeads patch notes defined (OnText seed functions quiet two left)) before now old new status
+leads_as patch notes defined seed functions quiet one two tidy left {before = before} {now = now} {old = old} {new = new} {status = status} same alike
+    leads =
+    subst (λ (b : Bool). LeadsBy (TargetLeads patch notes defined (OnText seed functions quiet two b)) before now old new status) alike
+    (subst (λ (u : Unread). LeadsBy (TargetLeads patch notes defined (OnText seed functions quiet u tidy)) before now old new status) same leads)
 
-module _ (patch : Patch) (notes : NoteLines) (defined : List (List ℕ)) (seed functions : ℕ) (quiet : Bool) (unread : Unread) where
+module _ (patch : Patch) (notes : NoteLines) (defined : List (List ℕ)) (seed functions : ℕ) (quiet : Bool) (unread : Unread) (tidy : Bool) where
   pub sum_done : (tally : Tally) {before now : Counts} {old new : Observed} {status : ℕ} → NoneFell before now
-      → status ≡ end_status tally → TreatsAll (Sums patch defined quiet unread generated_name (generated seed functions)) tally old new
-      → LeadsBy (TargetLeads patch notes defined (OnText seed functions quiet unread)) before now old new status
+      → status ≡ end_status tally → TreatsAll (Sums tidy patch defined quiet unread generated_name (generated seed functions)) tally old new
+      → LeadsBy (TargetLeads patch notes defined (OnText seed functions quiet unread tidy)) before now old new status
   sum_done tally {before = before} {now = now} {old = old} {new = new} {status = status} fell is all =
       let treated = all.treated in
       let s = end_status treated.tally in
@@ -239,8 +241,8 @@ module _ (patch : Patch) (notes : NoteLines) (defined : List (List ℕ)) (seed f
       (subst (λ (n : ℕ). Ends (Ending treated.acts s) before now old new n) (ap end_status all.tally_is ∙ sym is) ends)
 
   pub sum_cut : {before now : Counts} {old new : Observed} {status : ℕ} → NoneFell before now
-      → TreatsPart (Sums patch defined quiet unread generated_name (generated seed functions)) before now old new status
-      → LeadsBy (TargetLeads patch notes defined (OnText seed functions quiet unread)) before now old new status
+      → TreatsPart (Sums tidy patch defined quiet unread generated_name (generated seed functions)) before now old new status
+      → LeadsBy (TargetLeads patch notes defined (OnText seed functions quiet unread tidy)) before now old new status
   sum_cut fell (earlier seven none) = unfed fell seven none
   sum_cut fell (later treated treats stops) =
       let s = end_status treated.tally in

@@ -51,6 +51,7 @@ fn take_turn<R: Threads + Sync, S: Shelf, O: Sink, E: Sink, G: Gate>(
     outside: &mut Outside<'_, '_, '_, S, O, E>,
 ) -> Result<Turn, Stopped>
     requires unread { rules.now.unread ≡ mode.unread }
+    requires tidy { rules.now.tidy ≡ mode.tidy }
     ensures same { SamePlaces outside.old outside.new }
     ensures turned { IfOk result (λ turned. TurnsTo turned rules.now.patch.now rules.now.defined.now mode name.now
         (observed (S.holds outside.old.shelf.now) (S.stores outside.old.shelf.now) (O.written outside.old.out.now) (E.written outside.old.err.now))
@@ -94,6 +95,7 @@ pub fn edit_files<R: Threads + Sync, S: Shelf, O: Sink, E: Sink, G: Gate>(
     outside: &mut Outside<'_, '_, '_, S, O, E>,
 ) -> Result<Status, Stopped>
     requires unread { rules.now.unread ≡ mode.unread }
+    requires tidy { rules.now.tidy ≡ mode.tidy }
     ensures same { SamePlaces outside.old outside.new }
     ensures ends { Ends (going [] rules.now.patch.now rules.now.defined.now mode (map (λ name. name.now) names.now)
         (first_course notes.now))

@@ -11,7 +11,8 @@
 //! Its folders:
 //!
 //! - `run_laws`: What holds for every run, whatever it is called with.
-//! - `run_ends`: Every run has acts: what holds for a run whose patch, isomorphisms and files are as they should be.
+//! - `run_ends`: What holds for a run whose patch, isomorphisms and files are as they should be, and that words without
+//!   `--tidy` have acts.
 #![tactic(auto)]
 
 ghost use Rattle.run_acts.specs.Acts.{observed};

@@ -1,6 +1,6 @@
-//! Every run has acts: what holds for a run whose patch, isomorphisms and files are as they should be.
+//! What holds for a run whose patch, isomorphisms and files are as they should be, and that words without `--tidy` have acts.
 //!
-//! - [`words_have_acts`]: it is impossible that some words have no list of acts, whatever the shelf reveals.
+//! - [`words_have_acts`]: it is impossible that some words without `--tidy` have no list of acts, whatever the shelf reveals.
 //! - [`runs_are_complete`]: if the patch and its isomorphisms are read and each file is present, a run returns 4 when some file
 //!   is refused, or else 8 when under `--check` some file is hit, or else 0, unless it runs out of memory.
 //! - [`jobs_leave_acts`]: words that differ only in their jobs have the same acts.

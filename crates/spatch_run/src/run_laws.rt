@@ -8,11 +8,17 @@
 #![tactic(auto)]
 
 ghost use Rattle.std.specs.Prelude.{◌≡◌, ◌∷◌, ◌++◌, ℕ, List, IsSome};
+ghost use Rattle.smpl_patch.specs.declared.rule.Patch.{Patch as Whole};
 ghost use Rattle.run_acts.specs.Acts.{Act, Observed};
 ghost use Rattle.run_acts.specs.Breaks.{Counts};
 ghost use Rattle.run_files.specs.RunStages.Paths.{AreActs, ComesTo};
 ghost use Rattle.run_files.specs.RunStages.Promise.{EndsRightly};
-ghost use Rattle.run_files.specs.RunStages.Reasons.{Reason};
+ghost use Rattle.run_words.specs.declared.order.Mode.{Mode as HowFiles};
+ghost use Rattle.run_words.specs.Orders.{OnFiles};
+ghost use Rattle.run_files.specs.declared.run_lines.notes.NoteLines.{NoteLines};
+ghost use Rattle.run_files.specs.Treatment.{Treated, IsTreatmentOf};
+ghost use Rattle.run_files.specs.RunStages.Stages.{first_course};
+ghost use Rattle.run_files.specs.RunStages.Reasons.{FilesDo, FilesEnd, PatchReady, Reason, files_status};
 ghost use Rattle.run_files.specs.RunStages.Causes.{Causes};
 
 use c_places::places_are_one;
@@ -26,6 +32,9 @@ use smpl_places::faults_have_one_place;
 ///
 /// - `same`: two lists of acts of the same words and the same files are equal, and so are their statuses.
 /// - `begins`: the acts that a run has done so far, followed by its next act, are a prefix of that list.
+/// - `files`: if the patch has all its forms and files are to be edited, the list goes on with the acts of the files in turn,
+///   and the status is the one after them.
+/// - `treated`: what results from the text of a file is determined.
 ///
 /// Does nothing.
 pub fn acts_are_one_list()
@@ -35,6 +44,14 @@ pub fn acts_are_one_list()
     ensures begins { (words : List (List ℕ)) (old other mid : Observed) (next : Act) (acts : List Act) (status : ℕ) →
         IsSome old.files → other.files ≡ old.files → (comes : ComesTo words old mid next) →
         AreActs words other acts status → (rest : List Act) × (acts ≡ comes.acts ++ next ∷ rest) }
+    ensures files { (words : List (List ℕ)) (old : Observed) (patch : Whole) (lines : NoteLines) (defined : List (List ℕ))
+        (mode : HowFiles) (names : List (List ℕ)) (before acts : List Act) (status : ℕ) →
+        IsSome old.files → PatchReady words old patch lines defined (OnFiles mode names) before →
+        AreActs words old acts status →
+        (rest : List Act) × ((end : FilesEnd) × (FilesDo old patch defined mode names (first_course lines) rest end
+        × ((acts ≡ before ++ rest) × (status ≡ files_status end)))) }
+    ensures treated { (mode : HowFiles) (patch : Whole) (defined : List (List ℕ)) (name bytes : List ℕ) (one other : Treated) →
+        IsTreatmentOf mode patch defined name bytes one → IsTreatmentOf mode patch defined name bytes other → one ≡ other }
 {
     patches_are_read_once();
     patches_are_noted_once();

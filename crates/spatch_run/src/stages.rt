@@ -318,6 +318,7 @@ fn use_patch<R: Threads + Sync, S: Shelf, O: Sink, E: Sink, G: Gate>(
 {
     let prepared = prepared(host.alloc, patch)?;
     let unread = order.target.unread();
+    let tidy = order.target.is_tidy();
     let words = words_of_rules(host.alloc, unread, &prepared)?;
     let workers = Workers {
         rt: host.rt,
@@ -329,12 +330,13 @@ fn use_patch<R: Threads + Sync, S: Shelf, O: Sink, E: Sink, G: Gate>(
         patch,
         prepared: &prepared,
         defined: &order.defined,
+        tidy,
         unread,
         words: &words,
     };
     match &order.target {
         Target::Files(mode, names) => edit_files(&workers, &rules, *mode, names, notes, outside),
-        Target::Text(seed, functions, quiet, _) => sum_text(
+        Target::Text(seed, functions, quiet, _, _) => sum_text(
             &workers, &rules, *seed, *functions, *quiet, outside,
         ),
     }

@@ -64,7 +64,8 @@ pub fn sum_text<R: Threads + Sync, S: Shelf, O: Sink, E: Sink, G: Gate>(
     requires few { functions ≤ 100000 }
     ensures same { SamePlaces outside.old outside.new }
     ensures ends { (notes : NoteLines) →
-        LeadsBy (TargetLeads rules.now.patch.now notes rules.now.defined.now (OnText seed functions quiet rules.now.unread))
+        LeadsBy (TargetLeads rules.now.patch.now notes rules.now.defined.now
+        (OnText seed functions quiet rules.now.unread rules.now.tidy))
         (counts (S.faults outside.old.shelf.now) (O.faults outside.old.out.now) (E.faults outside.old.err.now))
         (counts (S.faults outside.new.shelf.now) (O.faults outside.new.out.now) (E.faults outside.new.err.now))
         (observed (S.holds outside.old.shelf.now) (S.stores outside.old.shelf.now) (O.written outside.old.out.now) (E.written outside.old.err.now))

@@ -1,11 +1,12 @@
 -- The lines about files.
-use Rattle.std.specs.Prelude.{ℕ, List, [], ◌++◌, Option, None, option_and_then, slice_get, codes}
+use Rattle.std.specs.Prelude.{ℕ, List, [], ◌++◌, Option, Some, None, option_and_then, slice_get, codes}
 use Rattle.std.specs.Fmt.{decimal}
 use Rattle.cpp_lines.specs.declared.reading.Why.{Why}
 use Rattle.cpp_lines.specs.declared.reading.Why.TheVariants.{NoTree, TooDeep, TooManyNodes}
 use Rattle.rule_chain.specs.declared.rule_run.state.SkipNote.{SkipNote}
 use Rattle.rule_chain.specs.declared.rule_run.fault.FileFault.{FileFault}
-use Rattle.rule_chain.specs.declared.rule_run.fault.FileFault.TheVariants.{FileTooLong, Conflict, TooManyWitnesses, TooManyEnvironments, NoMemory}
+use Rattle.rule_chain.specs.declared.rule_run.fault.FileFault.TheVariants.{FileTooLong, Conflict, Body, TooManyWitnesses, TooManyEnvironments}
+use Rattle.rule_chain.specs.declared.rule_run.fault.FileFault.TheVariants.{NoMemory}
 use Rattle.text_places.specs.declared.place.Place.{Place}
 use Rattle.c_places.specs.declared.places.TextPlaces.{TextPlaces}
 use Rattle.run_files.specs.RunLines.Further.{further_at, placed}
@@ -15,6 +16,7 @@ use Rattle.run_files.specs.RunLines.Patches.{line_about}
 abbrev pub fault_text : FileFault → List ℕ
 fault_text (FileTooLong rule) = codes "file too long after rule " ++ decimal rule
 fault_text (Conflict rule token first second) = codes "conflict in rule " ++ decimal rule ++ codes " at token " ++ decimal token
+fault_text (Body rule token) = codes "rule " ++ decimal rule ++ codes " leaves a body without braces at token " ++ decimal token
 fault_text (TooManyWitnesses rule) = codes "too many witnesses in rule " ++ decimal rule
 fault_text (TooManyEnvironments rule) = codes "too many environments after rule " ++ decimal rule
 fault_text NoMemory = []
@@ -24,11 +26,16 @@ abbrev pub fault_there : FileFault → List ℕ
 fault_there (Conflict rule token first second) = codes "conflict in rule " ++ decimal rule
 fault_there fault = fault_text fault
 
--- Where a refusal is in the text that was loaded, by where its tokens begin: a conflict is at its token, if that was loaded.
--- Ids of loaded tokens count from 0, and those of added ones are greater.
+-- the token at which a refusal is, if it is at one
+abbrev pub fault_token : FileFault → Option ℕ
+fault_token (Conflict rule token first second) = Some token
+fault_token (Body rule token) = Some token
+fault_token fault = None
+
+-- Where a refusal is in the text that was loaded, by where its tokens begin: at its token, if that was loaded. Ids of loaded tokens
+-- count from 0, and those of added ones are greater.
 abbrev pub fault_start : TextPlaces → FileFault → Option ℕ
-fault_start places (Conflict rule token first second) = slice_get places.tokens token
-fault_start places fault = None
+fault_start places fault = option_and_then (slice_get places.tokens) (fault_token fault)
 
 abbrev pub fault_place : List ℕ → TextPlaces → FileFault → Option Place
 fault_place text places fault = placed text (fault_start places fault)

@@ -48,4 +48,4 @@ lines_of name has_isos reports notes = record {
 -- the lines of the notes that a run may tell: none on a generated text, and none under `--quiet`
 abbrev pub note_lines : List ℕ → (has_isos : Bool) → Target → List Note → NoteLines
 note_lines name has_isos (OnFiles mode names) notes = cond mode.quiet no_lines (lines_of name has_isos mode.witnesses notes)
-note_lines name has_isos (OnText seed functions quiet unread) notes = no_lines
+note_lines name has_isos (OnText seed functions quiet unread tidy) notes = no_lines

@@ -14,7 +14,7 @@ use Rattle.run_words.specs.OptionNames.{option_text}
 -- ---- words that are no command
 
 abbrev pub usage : List ℕ
-usage = codes "spatch: usage: spatch --sp-file P [--iso-file I] [--define a,b] [--jobs n] [--witnesses] [--in-place] FILE...\n"
+usage = codes "spatch: usage: spatch --sp-file P [--iso-file I] [--define a,b] [--jobs n] [--witnesses] [--tidy] [--in-place] FILE...\n"
 
 -- the option that was meant, if one was
 abbrev pub meant_text : Option OptionName → List ℕ
@@ -64,6 +64,7 @@ help_use = codes "usage: spatch --sp-file P [OPTION]... FILE...\n"
 abbrev pub help_options : List ℕ
 help_options = codes "  --sp-file P       the patch (needed)\n"
     ++ codes "  --in-place        store each file that changes; its text isn't printed\n"
+    ++ codes "  --tidy            edit as for a commit: emptied lines go, and braces come\n                    where they are needed\n"
     ++ codes "  --witnesses       print what each rule finds, in place of the text\n"
     ++ codes "  --check           print the names of files in which something is found;\n                    status 8 if there is one\n"
     ++ codes "  --quiet           leave out the lines that say more, which begin with two\n                    blanks\n"

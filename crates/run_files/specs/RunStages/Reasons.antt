@@ -120,8 +120,8 @@ pub data Reason (words : List (List ℕ)) (old : Observed) (acts : List Act) (st
       → acts ≡ before ++ Report (forms_line name rule) ∷ [] → status ≡ 3 → Reason words old acts status
   -- 0 or 4: a patch is applied to a generated text
   summed : (patch : Patch) (lines : NoteLines) (defined : List (List ℕ)) (seed functions : ℕ) (quiet : Bool) (unread : Unread)
-      (treated : Treated) (before : List Act) → PatchReady words old patch lines defined (OnText seed functions quiet unread) before
-      → Sums patch defined quiet unread generated_name (generated seed functions) treated
+      (tidy : Bool) (treated : Treated) (before : List Act) → PatchReady words old patch lines defined (OnText seed functions quiet unread tidy) before
+      → Sums tidy patch defined quiet unread generated_name (generated seed functions) treated
       → acts ≡ before ++ treated.acts → status ≡ end_status treated.tally → Reason words old acts status
   -- 0, 4, 5 or 8: the files are processed
   filed : (patch : Patch) (lines : NoteLines) (defined : List (List ℕ)) (mode : Mode) (names : List (List ℕ)) (before rest : List Act)

@@ -108,8 +108,8 @@ begun_by words = begun (word_fault words) (order_of words)
 -- what a patch with all its forms leads to
 abbrev pub TargetLeads : Patch → NoteLines → List (List ℕ) → Target → Stage → Type 0
 TargetLeads patch notes defined (OnFiles mode names) to = to ≡ going [] patch defined mode names (first_course notes)
-TargetLeads patch notes defined (OnText seed functions quiet unread) to =
-    (treated : Treated) × (Sums patch defined quiet unread generated_name (generated seed functions) treated
+TargetLeads patch notes defined (OnText seed functions quiet unread tidy) to =
+    (treated : Treated) × (Sums tidy patch defined quiet unread generated_name (generated seed functions) treated
     × (to ≡ Ending treated.acts (end_status treated.tally)))
 
 -- what a patch that was read leads to: it gets its forms if isomorphisms are named

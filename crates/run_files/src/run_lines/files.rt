@@ -23,6 +23,10 @@ fn put_fault(line: &mut TextBuffer, fault: &FileFault) -> Result<(), NoMemory>
             line.put_numbered(b"conflict in rule ", u64::from(*rule))?;
             line.put_numbered(b" at token ", *token)
         }
+        FileFault::Body(rule, token) => {
+            line.put_numbered(b"rule ", u64::from(*rule))?;
+            line.put_numbered(b" leaves a body without braces at token ", *token)
+        }
         FileFault::TooManyWitnesses(rule) => {
             line.put_numbered(b"too many witnesses in rule ", u64::from(*rule))
         }

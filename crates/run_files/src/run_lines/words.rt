@@ -11,7 +11,7 @@ use std::alloc::Global;
 use wit_print::TextBuffer;
 
 const USAGE: &str =
-    "spatch: usage: spatch --sp-file P [--iso-file I] [--define a,b] [--jobs n] [--witnesses] [--in-place] FILE...\n";
+    "spatch: usage: spatch --sp-file P [--iso-file I] [--define a,b] [--jobs n] [--witnesses] [--tidy] [--in-place] FILE...\n";
 
 const VERSION: &str = "spatch (Rollgorge) 0.1.0\n";
 
@@ -24,6 +24,8 @@ const HELP: &str = concat!(
     "\n",
     "  --sp-file P       the patch (needed)\n",
     "  --in-place        store each file that changes; its text isn't printed\n",
+    "  --tidy            edit as for a commit: emptied lines go, and braces come\n",
+    "                    where they are needed\n",
     "  --witnesses       print what each rule finds, in place of the text\n",
     "  --check           print the names of files in which something is found;\n",
     "                    status 8 if there is one\n",

@@ -71,8 +71,8 @@ module _ (o : Options) (check quiet : Bool) (patch : is_some o.sp_file ≡ true)
   -- ---- with a generated text
 
   text_by : (sp : Option (List ℕ)) → is_some sp ≡ true → (seed functions : ℕ) (one two : Option Order)
-      → option_map_or (λ p. Some (Apply p None [] (OnText seed functions quiet (told_in o)))) sp one
-      ≡ option_map (order_with check quiet) (option_map_or (λ p. Some (Apply p None [] (OnText seed functions false (told_in o)))) sp two)
+      → option_map_or (λ p. Some (Apply p None [] (OnText seed functions quiet (told_in o) o.tidy))) sp one
+      ≡ option_map (order_with check quiet) (option_map_or (λ p. Some (Apply p None [] (OnText seed functions false (told_in o) o.tidy))) sp two)
   text_by None named seed functions one two = let wrong : false ≡ true = named in absurd cc
   text_by (Some p) named seed functions one two = refl
 

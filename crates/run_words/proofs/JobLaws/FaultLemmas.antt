@@ -23,11 +23,11 @@ jobs_good None o e = refl
 jobs_good (Some text) o e = ap (λ (b : Bool). cond b None (Some (BadValue Jobs text))) e
 
 -- a patch is needed for the jobs in both or in neither
-same_need : (patch other quiet unread one two : Bool) → (one ≡ two) ⊎ (patch ≡ true)
-    → (not patch && (other || (two || quiet || unread))) ≡ (not patch && (other || (one || quiet || unread)))
-same_need patch other quiet unread one two (inl same) = ap (λ (b : Bool). not patch && (other || (b || quiet || unread))) (sym same)
-same_need true other quiet unread one two (inr named) = refl
-same_need false other quiet unread one two (inr named) = let wrong : false ≡ true = named in absurd cc
+same_need : (patch other quiet unread tidy one two : Bool) → (one ≡ two) ⊎ (patch ≡ true)
+    → (not patch && (other || (two || quiet || unread || tidy))) ≡ (not patch && (other || (one || quiet || unread || tidy)))
+same_need patch other quiet unread tidy one two (inl same) = ap (λ (b : Bool). not patch && (other || (b || quiet || unread || tidy))) (sym same)
+same_need true other quiet unread tidy one two (inr named) = refl
+same_need false other quiet unread tidy one two (inr named) = let wrong : false ≡ true = named in absurd cc
 
 module _ (o : Options) (jobs : Option (List ℕ)) (has_one : has_jobs o ≡ true) (has_other : has_jobs (with_jobs jobs o) ≡ true)
     (given : (is_some o.jobs ≡ is_some jobs) ⊎ (is_some o.sp_file ≡ true)) where
@@ -42,7 +42,7 @@ module _ (o : Options) (jobs : Option (List ℕ)) (has_one : has_jobs o ≡ true
   need_same : need_fault other ≡ need_fault o
   need_same = ap (λ (b : Bool). first_of (told_if b (Needed need.Patch) ∷ told_if (not (has_files o) && not (is_some o.generate)) (Needed need.File)
       ∷ told_if (not (is_some o.functions) && is_some o.generate) (Needed need.Functions) ∷ []))
-      (same_need (is_some o.sp_file) (not (is_some o.generate)) o.quiet (is_some o.unread) (is_some o.jobs) (is_some jobs) given)
+      (same_need (is_some o.sp_file) (not (is_some o.generate)) o.quiet (is_some o.unread) o.tidy (is_some o.jobs) (is_some jobs) given)
 
   pub options_same : options_fault other ≡ options_fault o
   unfolding options_fault

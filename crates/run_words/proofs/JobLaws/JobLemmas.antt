@@ -38,13 +38,13 @@ module _ (o : Options) (jobs : Option (List ℕ)) (has_one : has_jobs o ≡ true
   both_given (Some patch) (inr named) e = absurd cc
 
   text_by : (sp : Option (List ℕ)) → o.sp_file ≡ sp → (seed functions : ℕ)
-      → option_map_or (λ patch. Some (Apply patch None [] (OnText seed functions o.quiet (told_in o)))) sp
-      (cond (is_some jobs || o.quiet || is_some o.unread) None (Some (Generate seed functions)))
-      ≡ option_map_or (λ patch. Some (Apply patch None [] (OnText seed functions o.quiet (told_in o)))) sp
-      (cond (is_some o.jobs || o.quiet || is_some o.unread) None (Some (Generate seed functions)))
+      → option_map_or (λ patch. Some (Apply patch None [] (OnText seed functions o.quiet (told_in o) o.tidy))) sp
+      (cond (is_some jobs || o.quiet || is_some o.unread || o.tidy) None (Some (Generate seed functions)))
+      ≡ option_map_or (λ patch. Some (Apply patch None [] (OnText seed functions o.quiet (told_in o) o.tidy))) sp
+      (cond (is_some o.jobs || o.quiet || is_some o.unread || o.tidy) None (Some (Generate seed functions)))
   text_by (Some patch) e seed functions = refl
   text_by None e seed functions =
-      ap (λ (b : Bool). cond (b || o.quiet || is_some o.unread) None (Some (Generate seed functions))) (both_given o.sp_file given e)
+      ap (λ (b : Bool). cond (b || o.quiet || is_some o.unread || o.tidy) None (Some (Generate seed functions))) (both_given o.sp_file given e)
 
   text_same : (seed functions : ℕ) → on_text other seed functions ≡ on_text o seed functions
   text_same seed functions = text_by o.sp_file refl seed functions

@@ -60,8 +60,8 @@ module _ (o : Options) (choice : Option (List ℕ)) (has_one : has_unread o ≡ 
   -- ---- with a generated text
 
   text_by : (sp : Option (List ℕ)) → is_some sp ≡ true → (seed functions : ℕ) (one two : Option Order)
-      → option_map_or (λ p. Some (Apply p None [] (OnText seed functions o.quiet (told_in other)))) sp one
-      ≡ option_map telling (option_map_or (λ p. Some (Apply p None [] (OnText seed functions o.quiet (told_in o)))) sp two)
+      → option_map_or (λ p. Some (Apply p None [] (OnText seed functions o.quiet (told_in other) o.tidy))) sp one
+      ≡ option_map telling (option_map_or (λ p. Some (Apply p None [] (OnText seed functions o.quiet (told_in o) o.tidy))) sp two)
   text_by None named seed functions one two = let wrong : false ≡ true = named in absurd cc
   text_by (Some p) named seed functions one two = refl
 

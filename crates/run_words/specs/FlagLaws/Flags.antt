@@ -19,6 +19,7 @@ with_flags check quiet o = record {
   in_place = o.in_place;
   check = check;
   quiet = quiet;
+  tidy = o.tidy;
   help = o.help;
   version = o.version;
   files = o.files;
@@ -26,8 +27,8 @@ with_flags check quiet o = record {
 
 abbrev pub target_with : Bool → Bool → Target → Target
 target_with check quiet (OnFiles mode names) =
-    OnFiles (record { witnesses = mode.witnesses; in_place = mode.in_place; check = check; quiet = quiet; unread = mode.unread }) names
-target_with check quiet (OnText seed functions old unread) = OnText seed functions quiet unread
+    OnFiles (record { witnesses = mode.witnesses; in_place = mode.in_place; check = check; quiet = quiet; unread = mode.unread; tidy = mode.tidy }) names
+target_with check quiet (OnText seed functions old unread tidy) = OnText seed functions quiet unread tidy
 
 -- the same order, in which files are checked and further lines left out, or aren't
 abbrev pub order_with : Bool → Bool → Order → Order

@@ -19,6 +19,7 @@ with_jobs jobs o = record {
   in_place = o.in_place;
   check = o.check;
   quiet = o.quiet;
+  tidy = o.tidy;
   help = o.help;
   version = o.version;
   files = o.files;

@@ -21,17 +21,25 @@ with_unread choice o = record {
   in_place = o.in_place;
   check = o.check;
   quiet = o.quiet;
+  tidy = o.tidy;
   help = o.help;
   version = o.version;
   files = o.files;
 }
 
 abbrev pub mode_telling : Unread → Mode → Mode
-mode_telling told mode = record { witnesses = mode.witnesses; in_place = mode.in_place; check = mode.check; quiet = mode.quiet; unread = told }
+mode_telling told mode = record {
+  witnesses = mode.witnesses;
+  in_place = mode.in_place;
+  check = mode.check;
+  quiet = mode.quiet;
+  unread = told;
+  tidy = mode.tidy;
+}
 
 abbrev pub target_telling : Unread → Target → Target
 target_telling told (OnFiles mode names) = OnFiles (mode_telling told mode) names
-target_telling told (OnText seed functions quiet old) = OnText seed functions quiet told
+target_telling told (OnText seed functions quiet old tidy) = OnText seed functions quiet told tidy
 
 -- the same order, in which these items that can't be read are told of
 abbrev pub order_telling : Unread → Order → Order

@@ -1,6 +1,6 @@
 -- Files in turn have acts, and their end follows from whether they are present, refused and hit.
 use Rattle.std.proofs.Common.{◌≡◌, ◌<◌, ◌≤◌, ◌⊎◌, ◌||◌, ℕ, Bool, true, false, Option, Some, None, List, [], ◌∷◌, ◌++◌, length, inl, inr, refl, sym}
-use Rattle.std.proofs.Common.{ap, ◌∙◌, arith}
+use Rattle.std.proofs.Common.{ap, ◌∙◌, subst, arith}
 use Rattle.std.specs.Prelude.{IsSome}
 use Rattle.std.specs.FinMap.{get}
 use Rattle.outer_io.specs.Files.{Files}
@@ -22,20 +22,20 @@ use Rattle.run_files.specs.RunStages.Stages.{Course, joined, after_file, told}
 use Rattle.run_files.specs.RunStages.Reasons.{FilesEnd, AllDone, Missing, FilesDo}
 use Rattle.text_laws.specs.ChainTotal.Weakly.{Weakly}
 use Rattle.spatch_run.specs.RunEnds.Fates.{AllThere, NoFile, SomeFile}
-use Rattle.spatch_run.proofs.RunLaws.Unique.{not-untold}
+use Rattle.spatch_run.proofs.RunLaws.Unique.{Found-one, not-untold, same_some}
 use Rattle.spatch_run.proofs.RunLaws.OnePath.{after_act-observed}
 use Rattle.spatch_run.proofs.RunLaws.Checked.{same_tally}
 
 -- how the chain ends is how the rules end, whatever is told
-pub chain_ends : (choice : Unread) (rules : List Rule) (defined : List (List ℕ)) (bytes : List ℕ) (end : Outcome) → Chain rules defined bytes end
-    → EndsBy choice rules defined bytes end
-chain_ends unread.All rules defined bytes end chain = chain
-chain_ends unread.Needed rules defined bytes end chain = inl chain
-chain_ends unread.None rules defined bytes end chain = inl chain
+pub chain_ends : (tidy : Bool) (choice : Unread) (rules : List Rule) (defined : List (List ℕ)) (bytes : List ℕ) (end : Outcome)
+    → Chain tidy rules defined bytes end → EndsBy tidy choice rules defined bytes end
+chain_ends tidy unread.All rules defined bytes end chain = chain
+chain_ends tidy unread.Needed rules defined bytes end chain = inl chain
+chain_ends tidy unread.None rules defined bytes end chain = inl chain
 
 -- the rules have an outcome over each text
-abbrev pub HaveEnds : List Rule → List (List ℕ) → Type 0
-HaveEnds rules defined = (text : List ℕ) → Weakly ((end : Outcome) × Chain rules defined text end)
+abbrev pub HaveEnds : (tidy : Bool) → List Rule → List (List ℕ) → Type 0
+HaveEnds tidy rules defined = (text : List ℕ) → Weakly ((end : Outcome) × Chain tidy rules defined text end)
 
 order : (a b : ℕ) → (a ≤ b) ⊎ (b < a)
 order a b = grind arith
@@ -64,6 +64,11 @@ or_neither a b e f = ap (λ (x : Bool). x || b) e ∙ f
 abbrev pub Joins : (Tally → Bool) → Type 0
 Joins has = (one other : Tally) → has (joined one other) ≡ (has one || has other)
 
+-- a text has one treatment
+abbrev pub OneTreated : Type 0
+OneTreated = (mode : Mode) (patch : Patch) (defined : List (List ℕ)) (name bytes : List ℕ) (one other : Treated)
+    → IsTreatmentOf mode patch defined name bytes one → IsTreatmentOf mode patch defined name bytes other → one ≡ other
+
 module _ (patch : Patch) (defined : List (List ℕ)) (mode : Mode) where
   abbrev pub Does : Observed → List (List ℕ) → Course → List Act → FilesEnd → Type 0
   Does old names course acts end = FilesDo old patch defined mode names course acts end
@@ -76,13 +81,13 @@ module _ (patch : Patch) (defined : List (List ℕ)) (mode : Mode) where
 
   -- ---- files have acts
 
-  module _ (ends : HaveEnds patch.rules defined) where
+  module _ (ends : HaveEnds mode.tidy patch.rules defined) where
     treats_some : (name bytes : List ℕ) → Weakly ((treated : Treated) × IsTreatmentOf mode patch defined name bytes treated)
     treats_some name bytes = λ absent. elim (order (length bytes) file_limit) [
       | inr long ↦ absent (refuses (too_long_line name), inl (long, refl))
       | inl short ↦ ends bytes (λ e.
           let places = text_places bytes in
-          let rules_end = chain_ends mode.unread patch.rules defined bytes e.0 e.1 in
+          let rules_end = chain_ends mode.tidy mode.unread patch.rules defined bytes e.0 e.1 in
           absent (
             treated_by mode patch name bytes (told_places mode.quiet places.0) e.0,
             inr (short, (e.0, (rules_end, (places.0, (places.1, refl))))),
@@ -142,43 +147,25 @@ module _ (patch : Patch) (defined : List (List ℕ)) (mode : Mode) where
         none_has (after treated.acts old) names (after_file course treated.tally) some.1.1.1.1.0 end tally (told_after treated.acts old observed)
         some.1.1.1.1.1.1 is here.1 (joins course.tally treated.tally ∙ or_neither (has course.tally) (has treated.tally) had here.0)
 
-    -- if each is present and some file has it, they have acts with this end
-    module _ (ends : HaveEnds patch.rules defined) where
-      abbrev pub Having : Observed → List (List ℕ) → Course → Type 0
-      Having old names course = (acts : List Act) × ((end : FilesEnd) × (Does old names course acts end
-          × ((tally : Tally) × ((end ≡ AllDone tally) × (has tally ≡ true)))))
-
-      -- after a file that has it
-      later : (old : Observed) (names : List (List ℕ)) (course : Course) → IsSome old.files → has course.tally ≡ true
-          → AllThere patch defined mode old names → Weakly (Having old names course)
-      later old names course observed had there = λ absent.
-          files_do ends old names course (λ rest.
-          let done_with = all_done old names course rest.0 rest.1.0 observed rest.1.1 there in
-          absent (
-            rest.0,
-            (
-              rest.1.0,
-              (
-                rest.1.1,
-                (done_with.0, (done_with.1, stays old names course rest.0 rest.1.0 done_with.0 rest.1.1 done_with.1 had)),
-              ),
-            ),
-          ))
-
-      pub some_do : (old : Observed) (names : List (List ℕ)) (course : Course) → IsSome old.files → AllThere patch defined mode old names
-          → SomeFile patch defined mode has old names → Weakly (Having old names course)
-      some_do old [] course observed there some = absurd some
-      some_do old (name ∷ names) course observed there some = λ absent.
-          let treated = some.1.1.0 in
-          let rest_there = there.1 some.0 treated some.1.0 some.1.1.1.0 in
-          let next = after_file course treated.tally in
-          let on : Having (after treated.acts old) names next → ⊥ = λ rest.
-          absent (
-            Load name file_limit ∷ treated.acts ++ rest.0,
-            (rest.1.0, (inr (some.0, (some.1.0, (treated, (inl some.1.1.1.0, (rest.0, (refl, rest.1.1.0)))))), rest.1.1.1)),
-          ) in
-          elim some.1.1.1.1 [
-            | inl here ↦ later (after treated.acts old) names next (told_after treated.acts old observed)
-                (joins course.tally treated.tally ∙ or_true (has course.tally) (has treated.tally) here) rest_there on
-            | inr more ↦ some_do (after treated.acts old) names next (told_after treated.acts old observed) rest_there more on
-          ]
+    -- what some file has
+    pub some_has : OneTreated → (old : Observed) (names : List (List ℕ)) (course : Course) (acts : List Act) (end : FilesEnd) (tally : Tally)
+        → IsSome old.files → Does old names course acts end → end ≡ AllDone tally → SomeFile patch defined mode has old names → has tally ≡ true
+    some_has one old [] course acts end tally observed does is some = absurd some
+    some_has one old (name ∷ names) course acts end tally observed (inl gone) is some =
+        let no : Missing name ≡ AllDone tally = sym gone.1.1 ∙ is in absurd (cc)
+    some_has one old (name ∷ names) course acts end tally observed (inr did) is some =
+        let treated = did.1.1.0 in
+        let treats = treats_told old.files name did.0 treated observed did.1.1.1.0 in
+        let bytes : did.0 ≡ some.0 =
+        same_some did.0 some.0 (Found-one old.files name (Some did.0) (Some some.0) observed did.1.0 some.1.0) in
+        let same : treated ≡ some.1.1.0 =
+        one mode patch defined name some.0 treated some.1.1.0 (subst (λ (b : List ℕ). IsTreatmentOf mode patch defined name b treated) bytes treats)
+        some.1.1.1.0 in
+        let next = after_file course treated.tally in
+        elim some.1.1.1.1 [
+          | inl here ↦ stays (after treated.acts old) names next did.1.1.1.1.0 end tally did.1.1.1.1.1.1 is
+              (joins course.tally treated.tally
+              ∙ or_true (has course.tally) (has treated.tally) (ap (λ (t : Treated). has t.tally) same ∙ here))
+          | inr more ↦ some_has one (after treated.acts old) names next did.1.1.1.1.0 end tally (told_after treated.acts old observed)
+              did.1.1.1.1.1.1 is (subst (λ (t : Treated). SomeFile patch defined mode has (after t.acts old) names) (sym same) more)
+        ]

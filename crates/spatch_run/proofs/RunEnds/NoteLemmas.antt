@@ -205,9 +205,9 @@ module _ (words : List (List ℕ)) (old : Observed) where
       ended acts before _ status is (isos-none patch lines name (Some bytes) defined target before found) refl
   reason_notes acts status (many_forms patch lines name bytes defined target isos rule before found are many is over) =
       ended acts before _ status is (isos-none patch lines name (Some bytes) defined target before found) refl
-  reason_notes acts status (summed patch lines defined seed functions quiet unread treated before ready sums is over) =
+  reason_notes acts status (summed patch lines defined seed functions quiet unread tidy treated before ready sums is over) =
       alone acts status (ap (list_any is_note) is
-      ∙ no-append before treated.acts (ready-none patch lines defined (OnText seed functions quiet unread) before ready)
+      ∙ no-append before treated.acts (ready-none patch lines defined (OnText seed functions quiet unread tidy) before ready)
       (as-treated treated _ sums.1.1.1.1.1 (no-summed patch unread generated_name _ (told_places quiet sums.1.1.1.0) sums.1.0)))
   reason_notes acts status (filed patch lines defined mode names before rest end ready does is over) =
       after-none acts before rest status (ready-none patch lines defined (OnFiles mode names) before ready) is

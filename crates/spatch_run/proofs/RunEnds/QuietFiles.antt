@@ -9,7 +9,8 @@ use Rattle.outer_io.specs.Files.{Files}
 use Rattle.smpl_patch.specs.declared.rule.Patch.{Patch}
 use Rattle.c_places.specs.declared.places.TextPlaces.{TextPlaces}
 use Rattle.rule_chain.specs.declared.rule_run.fault.FileFault.{FileFault}
-use Rattle.rule_chain.specs.declared.rule_run.fault.FileFault.TheVariants.{FileTooLong, Conflict, TooManyWitnesses, TooManyEnvironments, NoMemory}
+use Rattle.rule_chain.specs.declared.rule_run.fault.FileFault.TheVariants.{FileTooLong, Conflict, Body, TooManyWitnesses, TooManyEnvironments}
+use Rattle.rule_chain.specs.declared.rule_run.fault.FileFault.TheVariants.{NoMemory}
 use Rattle.rule_chain.specs.declared.rule_run.state.SkipNote.{SkipNote}
 use Rattle.rule_chain.specs.RuleRun.States.{Chained, told_notes}
 use Rattle.rule_chain.specs.Chain.{Outcome, Done, Refused}
@@ -50,6 +51,7 @@ no_places = record { tokens = [] }
 no-fault-place : (text : List ℕ) (fault : FileFault) → fault_place text no_places fault ≡ None
 no-fault-place text (FileTooLong rule) = refl
 no-fault-place text (Conflict rule token first second) = refl
+no-fault-place text (Body rule token) = refl
 no-fault-place text (TooManyWitnesses rule) = refl
 no-fault-place text (TooManyEnvironments rule) = refl
 no-fault-place text NoMemory = refl
@@ -158,9 +160,9 @@ hushed-file holds mode patch defined name bytes treated (inl (inr short)) =
 hushed-file holds mode patch defined name bytes treated (inr special) =
     inr (special.0, ap hushed special.1 ∙ hushed-alone name (codes "refused: no regular file") refl)
 
-pub hushed-sums : (patch : Patch) (defined : List (List ℕ)) (quiet : Bool) (choice : Unread) (name bytes : List ℕ) (treated : Treated)
-    → Sums patch defined quiet choice name bytes treated → Sums patch defined true choice name bytes (hushed treated)
-hushed-sums patch defined quiet choice name bytes treated sums =
+pub hushed-sums : (tidy : Bool) (patch : Patch) (defined : List (List ℕ)) (quiet : Bool) (choice : Unread) (name bytes : List ℕ) (treated : Treated)
+    → Sums tidy patch defined quiet choice name bytes treated → Sums tidy patch defined true choice name bytes (hushed treated)
+hushed-sums tidy patch defined quiet choice name bytes treated sums =
     let it = sums.1 in
     let places = it.1.1.0 in
     (sums.0, (it.0, (it.1.0, (places, (it.1.1.1.0, ap hushed it.1.1.1.1 ∙ hushed-summed patch name bytes (told_places quiet places) choice it.0)))))

@@ -44,7 +44,7 @@ unless_quiet false lines all = all
 
 all-more : (name : List ℕ) (has_isos : Bool) (target : Target) (notes : List Note) → AllSayMore (note_lines name has_isos target notes)
 all-more name has_isos (OnFiles mode names) notes = unless_quiet mode.quiet _ (all-noted name _, all-noted name _)
-all-more name has_isos (OnText seed functions quiet unread) notes = (tt, tt)
+all-more name has_isos (OnText seed functions quiet unread tidy) notes = (tt, tt)
 
 -- the lines of the notes on a patch that is ready say more
 pub more-ready : (words : List (List ℕ)) (old : Observed) (whole : Patch) (lines : NoteLines) (defined : List (List ℕ)) (target : Target) (acts : List Act)
@@ -55,11 +55,11 @@ more-ready words old whole lines defined target acts (expanded patch name bytes 
 
 no-notes : (name : List ℕ) (has_isos : Bool) (target : Target) (notes : List Note) → note_lines name has_isos (quiet_target target) notes ≡ no_lines
 no-notes name has_isos (OnFiles mode names) notes = refl
-no-notes name has_isos (OnText seed functions quiet unread) notes = refl
+no-notes name has_isos (OnText seed functions quiet unread tidy) notes = refl
 
 hushes : (target : Target) → is_quiet (quiet_target target) ≡ true
 hushes (OnFiles mode names) = refl
-hushes (OnText seed functions quiet unread) = refl
+hushes (OnText seed functions quiet unread tidy) = refl
 
 -- ---- the acts at the end
 
@@ -163,12 +163,12 @@ module _ (words others : List (List ℕ)) (same : SameButQuiet words others) (ol
       are many (left before (Report (forms_line name rule)) (Report (forms_line name rule)) acts
       (isos_left patch lines name (Some bytes) defined target before found)
       (kept-alone name (codes "too many forms in rule " ++ decimal rule) (plain-decimal rule)) is) over
-  reason_quiet acts status (summed patch lines defined seed functions quiet unread treated before ready sums is over) not =
-      summed patch no_lines defined seed functions true unread (hushed treated) before
-      (ready_quiet patch lines defined (OnText seed functions quiet unread) before ready)
-      (hushed-sums patch defined quiet unread generated_name (generated seed functions) treated sums)
+  reason_quiet acts status (summed patch lines defined seed functions quiet unread tidy treated before ready sums is over) not =
+      summed patch no_lines defined seed functions true unread tidy (hushed treated) before
+      (ready_quiet patch lines defined (OnText seed functions quiet unread tidy) before ready)
+      (hushed-sums tidy patch defined quiet unread generated_name (generated seed functions) treated sums)
       (ap quieted is ∙ quieted-append before treated.acts
-      ∙ ap (λ (x : List Act). x ++ quieted treated.acts) (ready_left patch lines defined (OnText seed functions quiet unread) before ready)) over
+      ∙ ap (λ (x : List Act). x ++ quieted treated.acts) (ready_left patch lines defined (OnText seed functions quiet unread tidy) before ready)) over
   reason_quiet acts status (filed patch lines defined mode names before rest end ready does is over) not =
       filed patch no_lines defined (quiet_mode mode) names before (quieted rest) end (ready_quiet patch lines defined (OnFiles mode names) before ready)
       (files-quiet patch defined mode names old old (first_course lines) rest end refl
@@ -205,7 +205,7 @@ module _ (words others : List (List ℕ)) (same : SameButQuiet words others) (ol
   fault_quiet acts status (bad_isos patch lines name bytes defined target fault before found first is over) two = absurd (omega (arith, over, two))
   fault_quiet acts status (many_forms patch lines name bytes defined target isos rule before found are many is over) two =
       absurd (omega (arith, over, two))
-  fault_quiet acts status (summed patch lines defined seed functions quiet unread treated before ready sums is over) two =
+  fault_quiet acts status (summed patch lines defined seed functions quiet unread tidy treated before ready sums is over) two =
       absurd (not_two treated.tally.refused treated.tally.hit (sym over ∙ two))
   fault_quiet acts status (filed patch lines defined mode names before rest (AllDone tally) ready does is over) two =
       absurd (not_two tally.refused tally.hit (sym over ∙ two))

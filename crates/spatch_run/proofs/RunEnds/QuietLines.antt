@@ -14,7 +14,8 @@ use Rattle.cpp_lines.specs.declared.reading.Why.TheVariants.{NoTree, TooDeep, To
 use Rattle.iso_file.specs.declared.fault.IsoFault.{IsoFault}
 use Rattle.iso_file.specs.declared.fault.IsoFault.TheVariants as iso
 use Rattle.rule_chain.specs.declared.rule_run.fault.FileFault.{FileFault}
-use Rattle.rule_chain.specs.declared.rule_run.fault.FileFault.TheVariants.{FileTooLong, Conflict, TooManyWitnesses, TooManyEnvironments, NoMemory}
+use Rattle.rule_chain.specs.declared.rule_run.fault.FileFault.TheVariants.{FileTooLong, Conflict, Body, TooManyWitnesses, TooManyEnvironments}
+use Rattle.rule_chain.specs.declared.rule_run.fault.FileFault.TheVariants.{NoMemory}
 use Rattle.run_acts.specs.Acts.{Report}
 use Rattle.run_acts.specs.Lines.{cannot_read}
 use Rattle.run_files.specs.RunLines.Files.{fault_text, why_text}
@@ -91,6 +92,9 @@ plain-fault (FileTooLong rule) = plain-decimal rule
 plain-fault (Conflict rule token first second) =
     plain-append (codes "conflict in rule " ++ decimal rule ++ codes " at token ") (decimal token)
     (plain-append (codes "conflict in rule " ++ decimal rule) (codes " at token ") (plain-decimal rule) refl) (plain-decimal token)
+plain-fault (Body rule token) =
+    plain-append (codes "rule " ++ decimal rule ++ codes " leaves a body without braces at token ") (decimal token)
+    (plain-append (codes "rule " ++ decimal rule) (codes " leaves a body without braces at token ") (plain-decimal rule) refl) (plain-decimal token)
 plain-fault (TooManyWitnesses rule) = plain-decimal rule
 plain-fault (TooManyEnvironments rule) = plain-decimal rule
 plain-fault NoMemory = refl

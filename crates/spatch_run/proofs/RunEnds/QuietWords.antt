@@ -10,7 +10,7 @@ FlagLaw = (words others : List (List ℕ)) (check quiet : Bool) → SameButFlags
 
 quiet-with : (check : Bool) (order : Order) → order_with check true order ≡ quiet_order (order_with check false order)
 quiet-with check (Apply patch isos defined (OnFiles mode names)) = refl
-quiet-with check (Apply patch isos defined (OnText seed functions quiet unread)) = refl
+quiet-with check (Apply patch isos defined (OnText seed functions quiet unread tidy)) = refl
 quiet-with check (Generate seed functions) = refl
 quiet-with check (Say saying) = refl
 

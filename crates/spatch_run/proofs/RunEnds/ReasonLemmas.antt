@@ -1,6 +1,7 @@
 -- Words have acts with a reason.
-use Rattle.std.proofs.Common.{◌≡◌, ◌≤◌, ◌⊎◌, ℕ, Bool, Option, Some, None, is_some, List, [], ◌∷◌, ◌++◌, inl, inr, refl}
+use Rattle.std.proofs.Common.{◌≡◌, ◌∙◌, ◌≤◌, ◌⊎◌, ℕ, Bool, false, Option, Some, None, is_some, List, [], ◌∷◌, ◌++◌, inl, inr, refl, ap, sym, subst}
 use Rattle.smpl_patch.specs.declared.rule.Iso.{Iso}
+use Rattle.smpl_patch.specs.declared.rule.Rule.{Rule}
 use Rattle.smpl_patch.specs.declared.rule.Patch.{Patch}
 use Rattle.smpl_patch.specs.declared.fault.PatchFault.{PatchFault}
 use Rattle.smpl_file.specs.Patches.{IsPatchOf, IsFirstFault, IsSpelled}
@@ -17,7 +18,8 @@ use Rattle.run_acts.specs.Loaded.{Found}
 use Rattle.run_files.specs.declared.run_lines.notes.NoteLines.{NoteLines}
 use Rattle.run_files.specs.RunLines.Words.{refused_words, said}
 use Rattle.run_files.specs.RunLines.Patches.{patch_fault_line, iso_fault_line, forms_line, iso_byte}
-use Rattle.run_words.specs.Orders.{Target, OnFiles, OnText, Order, Apply, Generate, Say, order_of, is_quiet}
+use Rattle.std.specs.Option.{option_map_or}
+use Rattle.run_words.specs.Orders.{Target, OnFiles, OnText, Order, Apply, Generate, Say, asks_tidy, is_quiet, is_tidied, is_tidy, order_of}
 use Rattle.run_words.specs.Faults.{word_fault}
 use Rattle.smpl_places.specs.FaultPlaces.{FaultAt}
 use Rattle.smpl_notes.specs.declared.note.Note.{Note}
@@ -52,50 +54,63 @@ FormsLaw = (isos : List Iso) (patch : Patch) → ((whole : Patch) × IsExpanded 
 
 abbrev pub ReadLaw : Type 0
 ReadLaw = (bytes : List ℕ) (patch : Patch) (defined : List (List ℕ)) (text : List ℕ) → IsSpelled bytes patch
-    → Weakly ((end : Outcome) × Chain patch.rules defined text end)
+    → Weakly ((end : Outcome) × Chain false patch.rules defined text end)
 
 abbrev pub ExpandedLaw : Type 0
 ExpandedLaw = (bytes : List ℕ) (isos : List Iso) (patch whole : Patch) (defined : List (List ℕ)) (text : List ℕ) → IsSpelled bytes patch
-    → IsExpanded isos patch whole → Weakly ((end : Outcome) × Chain whole.rules defined text end)
+    → IsExpanded isos patch whole → Weakly ((end : Outcome) × Chain false whole.rules defined text end)
+
+untidy_asked : (words : List (List ℕ)) (order : Order) → asks_tidy words ≡ false → order_of words ≡ Some order → is_tidied order ≡ false
+untidy_asked words order untidy is = ap (λ (o : Option Order). option_map_or is_tidied o false) (sym is) ∙ untidy
+
+ends_as : (tidy : Bool) (rules : List Rule) (defined : List (List ℕ)) → tidy ≡ false → HaveEnds false rules defined → HaveEnds tidy rules defined
+ends_as tidy rules defined is ends = subst (λ (b : Bool). HaveEnds b rules defined) (sym is) ends
 
 -- the rules of a patch that is ready have an outcome over each text
-pub ready_ends : ReadLaw → ExpandedLaw → (words : List (List ℕ)) (old : Observed) (patch : Patch) (lines : NoteLines)
-    (defined : List (List ℕ)) (target : Target) (acts : List Act) → PatchReady words old patch lines defined target acts → HaveEnds patch.rules defined
-ready_ends read forms words old patch lines defined target acts (plain r) = λ text. read r.bytes patch defined text r.is.spelled
-ready_ends read forms words old patch lines defined target acts (expanded first name bytes isos found are is) =
-    λ text. forms found.read.bytes isos first patch defined text found.read.is.spelled is
+pub ready_ends : ReadLaw → ExpandedLaw → (words : List (List ℕ)) → asks_tidy words ≡ false → (old : Observed) (patch : Patch) (lines : NoteLines)
+    (defined : List (List ℕ)) (target : Target) (acts : List Act) → PatchReady words old patch lines defined target acts
+    → HaveEnds (is_tidy target) patch.rules defined
+ready_ends read forms words untidy old patch lines defined target acts (plain r) =
+    ends_as (is_tidy target) patch.rules defined (untidy_asked words (Apply r.name None defined target) untidy r.found.order)
+    (λ text. read r.bytes patch defined text r.is.spelled)
+ready_ends read forms words untidy old patch lines defined target acts (expanded first name bytes isos found are is) =
+    ends_as (is_tidy target) patch.rules defined
+    (untidy_asked words (Apply found.read.name (Some name) defined target) untidy found.read.found.order)
+    (λ text. forms found.read.bytes isos first patch defined text found.read.is.spelled is)
 
 -- a generated text that the patch is ready for has at most so many functions
 ready_few : (words : List (List ℕ)) (old : Observed) (patch : Patch) (lines : NoteLines) (defined : List (List ℕ)) (seed functions : ℕ) (quiet : Bool)
-    (unread : Unread) (acts : List Act) → PatchReady words old patch lines defined (OnText seed functions quiet unread) acts → functions ≤ 100000
-ready_few words old patch lines defined seed functions quiet unread acts (plain read) =
-    few_text words read.name None defined seed functions quiet unread read.found.order
-ready_few words old patch lines defined seed functions quiet unread acts (expanded first name bytes isos found are is) =
-    few_text words found.read.name (Some name) defined seed functions quiet unread found.read.found.order
+    (unread : Unread) (tidy : Bool) (acts : List Act) → PatchReady words old patch lines defined (OnText seed functions quiet unread tidy) acts
+    → functions ≤ 100000
+ready_few words old patch lines defined seed functions quiet unread tidy acts (plain read) =
+    few_text words read.name None defined seed functions quiet unread tidy read.found.order
+ready_few words old patch lines defined seed functions quiet unread tidy acts (expanded first name bytes isos found are is) =
+    few_text words found.read.name (Some name) defined seed functions quiet unread tidy found.read.found.order
 
 module _ (patch_law : PatchLaw) (place_law : PlaceLaw) (notes_law : NotesLaw) (isos_law : IsosLaw) (forms_law : FormsLaw) (read_law : ReadLaw)
-    (expanded_law : ExpandedLaw) (words : List (List ℕ))
+    (expanded_law : ExpandedLaw) (words : List (List ℕ)) (untidy : asks_tidy words ≡ false)
     (old : Observed) (absent : ((acts : List Act) × ((status : ℕ) × Reason words old acts status)) → ⊥) where
   -- the patch has all its forms
   target_by : (patch : Patch) (lines : NoteLines) (defined : List (List ℕ)) (target : Target) (before : List Act)
       → PatchReady words old patch lines defined target before → ⊥
   target_by patch lines defined (OnFiles mode names) before ready =
-      files_do patch defined mode (ready_ends read_law expanded_law words old patch lines defined
+      files_do patch defined mode (ready_ends read_law expanded_law words untidy old patch lines defined
       (OnFiles mode names) before ready) old names (first_course lines)
       (λ rest. absent (before ++ rest.0, (files_status rest.1.0, filed patch lines defined mode names before rest.0 rest.1.0 ready rest.1.1 refl refl)))
-  target_by patch lines defined (OnText seed functions quiet unread) before ready =
-      ready_ends read_law expanded_law words old patch lines defined (OnText seed functions quiet unread) before ready (generated seed functions)
+  target_by patch lines defined (OnText seed functions quiet unread tidy) before ready =
+      ready_ends read_law expanded_law words untidy old patch lines defined (OnText seed functions quiet unread tidy) before ready
+      (generated seed functions)
       (λ e.
       let text = generated seed functions in
       let places = text_places text in
       let treated : Treated = summed_by patch unread generated_name text (told_places quiet places.0) e.0 in
-      let ends = chain_ends unread patch.rules defined text e.0 e.1 in
-      let short = short_enough seed functions (ready_few words old patch lines defined seed functions quiet unread before ready) in
+      let ends = chain_ends tidy unread patch.rules defined text e.0 e.1 in
+      let short = short_enough seed functions (ready_few words old patch lines defined seed functions quiet unread tidy before ready) in
       absent (
         before ++ treated.acts,
         (
           end_status treated.tally,
-          summed patch lines defined seed functions quiet unread treated before ready (short, (e.0, (ends, (places.0, (places.1, refl))))) refl refl,
+          summed patch lines defined seed functions quiet unread tidy treated before ready (short, (e.0, (ends, (places.0, (places.1, refl))))) refl refl,
         ),
       ))
 

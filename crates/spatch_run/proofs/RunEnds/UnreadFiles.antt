@@ -100,18 +100,18 @@ as-treated one two other is tells = subst (λ (t : Treated). TellsOther t other)
 
 module _ (told : Unread) (patch : Patch) (defined : List (List ℕ)) where
   -- what is told of all is told of these
-  ends-other : (choice : Unread) (bytes : List ℕ) (end : Outcome) → choice ≡ unread.All → EndsBy choice patch.rules defined bytes end
-      → EndsBy told patch.rules defined bytes end
-  ends-other choice bytes end all ends =
-      chain_ends told patch.rules defined bytes end (subst (λ (u : Unread). EndsBy u patch.rules defined bytes end) all ends)
+  ends-other : (tidy : Bool) (choice : Unread) (bytes : List ℕ) (end : Outcome) → choice ≡ unread.All
+      → EndsBy tidy choice patch.rules defined bytes end → EndsBy tidy told patch.rules defined bytes end
+  ends-other tidy choice bytes end all ends =
+      chain_ends tidy told patch.rules defined bytes end (subst (λ (u : Unread). EndsBy tidy u patch.rules defined bytes end) all ends)
 
   -- and its notes are some of all
-  tells-some : (choice : Unread) (bytes : List ℕ) (end : Outcome) → choice ≡ unread.All → EndsBy choice patch.rules defined bytes end
-      → TellsSome told choice end
-  tells-some choice bytes end all ends s is =
+  tells-some : (tidy : Bool) (choice : Unread) (bytes : List ℕ) (end : Outcome) → choice ≡ unread.All
+      → EndsBy tidy choice patch.rules defined bytes end → TellsSome told choice end
+  tells-some tidy choice bytes end all ends s is =
       subst (λ (u : Unread). AreSome (told_notes told s) (told_notes u s)) (sym all)
-      (chain_some told patch.rules defined bytes s (subst (λ (e : Outcome). Chain patch.rules defined bytes e) is
-      (subst (λ (u : Unread). EndsBy u patch.rules defined bytes end) all ends)))
+      (chain_some tidy told patch.rules defined bytes s (subst (λ (e : Outcome). Chain tidy patch.rules defined bytes e) is
+      (subst (λ (u : Unread). EndsBy tidy u patch.rules defined bytes end) all ends)))
 
   file-other : (holds : Option Files) (mode : Mode) (name bytes : List ℕ) (treated : Treated) → mode.unread ≡ unread.All
       → IsFileTreatmentOf holds mode patch defined name bytes treated
@@ -125,27 +125,27 @@ module _ (told : Unread) (patch : Patch) (defined : List (List ℕ)) where
       let other = treated_by (mode_telling told mode) patch name bytes places end in (
         other,
         (
-          inl (inr (short.0, (end, (ends-other mode.unread bytes end all short.1.1.0, (found.0, (found.1.0, refl)))))),
+          inl (inr (short.0, (end, (ends-other mode.tidy mode.unread bytes end all short.1.1.0, (found.0, (found.1.0, refl)))))),
           as-treated treated _ other found.1.1 (treated-other told patch name bytes places mode end
-              (tells-some mode.unread bytes end all short.1.1.0)),
+              (tells-some mode.tidy mode.unread bytes end all short.1.1.0)),
         ),
       )
   file-other holds mode name bytes treated all (inr special) =
       (treated, (inr special, record { tally = refl; acts = but-refl treated.acts }))
 
-  pub sums-other : (quiet : Bool) (choice : Unread) (name bytes : List ℕ) (treated : Treated) → choice ≡ unread.All
-      → Sums patch defined quiet choice name bytes treated
-      → (other : Treated) × (Sums patch defined quiet told name bytes other × TellsOther treated other)
-  sums-other quiet choice name bytes treated all sums =
+  pub sums-other : (tidy quiet : Bool) (choice : Unread) (name bytes : List ℕ) (treated : Treated) → choice ≡ unread.All
+      → Sums tidy patch defined quiet choice name bytes treated
+      → (other : Treated) × (Sums tidy patch defined quiet told name bytes other × TellsOther treated other)
+  sums-other tidy quiet choice name bytes treated all sums =
       let end = sums.1.0 in
       let found = sums.1.1.1 in
       let places = told_places quiet found.0 in
       let other = summed_by patch told name bytes places end in (
         other,
         (
-          (sums.0, (end, (ends-other choice bytes end all sums.1.1.0, (found.0, (found.1.0, refl))))),
+          (sums.0, (end, (ends-other tidy choice bytes end all sums.1.1.0, (found.0, (found.1.0, refl))))),
           as-treated treated _ other found.1.1 (summed-other told patch name bytes places choice end
-              (tells-some choice bytes end all sums.1.1.0)),
+              (tells-some tidy choice bytes end all sums.1.1.0)),
         ),
       )
 

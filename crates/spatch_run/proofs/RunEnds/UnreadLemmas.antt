@@ -26,7 +26,7 @@ use Rattle.spatch_run.proofs.RunEnds.UnreadFiles.{but-refl, but-as, but-append, 
 -- the choice that counts is the last
 over : (told before : Unread) (order : Order) → order_telling told (order_telling before order) ≡ order_telling told order
 over told before (Apply patch isos defined (OnFiles mode names)) = refl
-over told before (Apply patch isos defined (OnText seed functions quiet old)) = refl
+over told before (Apply patch isos defined (OnText seed functions quiet old tidy)) = refl
 over told before (Generate seed functions) = refl
 over told before (Say saying) = refl
 
@@ -38,7 +38,7 @@ told_by (Say saying) = unread.All
 
 tells-all : (order : Order) → told_by (order_telling unread.All order) ≡ unread.All
 tells-all (Apply patch isos defined (OnFiles mode names)) = refl
-tells-all (Apply patch isos defined (OnText seed functions quiet old)) = refl
+tells-all (Apply patch isos defined (OnText seed functions quiet old tidy)) = refl
 tells-all (Generate seed functions) = refl
 tells-all (Say saying) = refl
 
@@ -46,12 +46,12 @@ tells-all (Say saying) = refl
 
 same-quiet : (told : Unread) (target : Target) → is_quiet (target_telling told target) ≡ is_quiet target
 same-quiet told (OnFiles mode names) = refl
-same-quiet told (OnText seed functions quiet old) = refl
+same-quiet told (OnText seed functions quiet old tidy) = refl
 
 same-notes : (told : Unread) (name : List ℕ) (has_isos : Bool) (target : Target) (notes : List Note)
     → note_lines name has_isos (target_telling told target) notes ≡ note_lines name has_isos target notes
 same-notes told name has_isos (OnFiles mode names) notes = refl
-same-notes told name has_isos (OnText seed functions quiet old) notes = refl
+same-notes told name has_isos (OnText seed functions quiet old tidy) notes = refl
 
 module _ (words others : List (List ℕ)) (same : SameButTold words others) (old : Observed) where
   asks : (order : Order) → order_of words ≡ Some order → order_of others ≡ Some (order_telling same.told order)
@@ -154,15 +154,15 @@ module _ (words others : List (List ℕ)) (same : SameButTold words others) (old
       but-refl acts,
     ),
   )
-  reason_told acts status (summed patch lines defined seed functions quiet choice treated before ready sums is over) =
-      let target = OnText seed functions quiet choice in
-      let it = sums-other same.told patch defined quiet choice generated_name (generated seed functions) treated
+  reason_told acts status (summed patch lines defined seed functions quiet choice tidy treated before ready sums is over) =
+      let target = OnText seed functions quiet choice tidy in
+      let it = sums-other same.told patch defined tidy quiet choice generated_name (generated seed functions) treated
       (ready_tells patch lines defined target before ready) sums in
       let other = it.0 in
       let left = before ++ other.acts in (
         left,
         (
-          summed patch lines defined seed functions quiet same.told other before (ready_other patch lines defined target before ready) it.1.0 refl
+          summed patch lines defined seed functions quiet same.told tidy other before (ready_other patch lines defined target before ready) it.1.0 refl
               (over ∙ ap end_status it.1.1.tally),
           but-as acts left _ left is refl (but-append before before treated.acts other.acts (but-refl before) it.1.1.acts),
         ),

@@ -53,7 +53,7 @@ reason_ended words old acts status (bad_patch name bytes isos defined target fau
 reason_ended words old acts status (no_isos patch lines name defined target before a b s) = inl (omega (arith, s))
 reason_ended words old acts status (bad_isos patch lines name bytes defined target fault before a b c s) = inl (omega (arith, s))
 reason_ended words old acts status (many_forms patch lines name bytes defined target isos rule before a b c d s) = inl (omega (arith, s))
-reason_ended words old acts status (summed patch lines defined seed functions quiet unread treated before a b c s) =
+reason_ended words old acts status (summed patch lines defined seed functions quiet unread tidy treated before a b c s) =
     ended status (end_status treated.tally) (end_ended treated.tally.refused treated.tally.hit) s
 reason_ended words old acts status (filed patch lines defined mode names before rest end a b c s) = ended status (files_status end) (files_ended end) s
 

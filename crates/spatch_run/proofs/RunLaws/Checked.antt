@@ -117,7 +117,7 @@ reason_checked words old acts status (no_isos patch lines name defined target be
 reason_checked words old acts status (bad_isos patch lines name bytes defined target fault before a b c s) is = absurd (omega (arith, s, is))
 reason_checked words old acts status (many_forms patch lines name bytes defined target isos rule before a b c d s) is =
     absurd (omega (arith, s, is))
-reason_checked words old acts status (summed patch lines defined seed functions quiet unread treated before ready sums b s) is =
+reason_checked words old acts status (summed patch lines defined seed functions quiet unread tidy treated before ready sums b s) is =
     let hit = is_hit_at treated.tally.refused treated.tally.hit (sym s ∙ is) in
     absurd (not_hit treated _ sums.1.1.1.1.1 (no_sum_hit patch unread generated_name _ (told_places quiet sums.1.1.1.0) sums.1.0) hit)
 reason_checked words old acts status (filed patch lines defined mode names before rest (AllDone tally) ready does b s) is =

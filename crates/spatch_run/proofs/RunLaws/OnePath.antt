@@ -8,7 +8,7 @@ use Rattle.run_files.specs.RunStages.Paths.{Path, AreActs, ComesTo}
 use Rattle.spatch_run.proofs.RunLaws.Unique.{none_some, same_some, ReadOnce, Leads-one}
 
 -- a run that has ended has no next act
-over_or_next : (stage : Stage) (status : ℕ) (act : Act) → status_at stage ≡ Some status → next_act stage ≡ Some act → ⊥
+pub over_or_next : (stage : Stage) (status : ℕ) (act : Act) → status_at stage ≡ Some status → next_act stage ≡ Some act → ⊥
 over_or_next (Doing acts work) status act over next = none_some status over
 over_or_next (Ending (a ∷ acts) s) status act over next = none_some status over
 over_or_next (Ending [] s) status act over next = none_some act next
@@ -35,7 +35,7 @@ prepended : (a b : Act) (acts part rest : List Act) → a ≡ b → acts ≡ par
 prepended a b acts part rest e f = cc
 
 -- another path from the next stage, restated for an equal stage
-moved : (act b : Act) (mid to last : Stage) (other : Observed) (acts : List Act) → act ≡ b → mid ≡ to → Path (after_act b other) to acts last
+pub moved : (act b : Act) (mid to last : Stage) (other : Observed) (acts : List Act) → act ≡ b → mid ≡ to → Path (after_act b other) to acts last
     → Path (after_act act other) mid acts last
 moved act b mid to last other acts e f path =
     subst (λ (s : Stage). Path (after_act act other) s acts last) (sym f) (subst (λ (x : Act). Path (after_act x other) to acts last) (sym e) path)

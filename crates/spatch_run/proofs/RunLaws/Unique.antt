@@ -58,11 +58,11 @@ pub record ReadOnce : Type 0 where
   pub whole_apart : (isos : List Iso) (patch whole : Patch) (rule : ℕ) → IsExpanded isos patch whole → IsFirstMany isos patch.rules rule → ⊥
   pub patch_place : (bytes : List ℕ) (fault : PatchFault) (one other : Option ℕ) → FaultAt bytes fault one → FaultAt bytes fault other → one ≡ other
   pub places : (bytes : List ℕ) (one other : TextPlaces) → ArePlaces bytes one → ArePlaces bytes other → one ≡ other
-  pub alike : (choice : Unread) (rules : List Rule) (defined : List (List ℕ)) (bytes : List ℕ) (end other : Outcome)
-      → length bytes ≤ file_limit → EndsBy choice rules defined bytes end → EndsBy choice rules defined bytes other
+  pub alike : (tidy : Bool) (choice : Unread) (rules : List Rule) (defined : List (List ℕ)) (bytes : List ℕ) (end other : Outcome)
+      → length bytes ≤ file_limit → EndsBy tidy choice rules defined bytes end → EndsBy tidy choice rules defined bytes other
       → AreAlike end other × AreToldAlike choice end other
 
-Found-one : (holds : Option Files) (name : List ℕ) (a b : Option (List ℕ)) → IsSome holds → Found holds name a → Found holds name b → a ≡ b
+pub Found-one : (holds : Option Files) (name : List ℕ) (a b : Option (List ℕ)) → IsSome holds → Found holds name a → Found holds name b → a ≡ b
 Found-one None name a b some one two = let e : false ≡ true = some in absurd (cc)
 Found-one (Some files) name a b some one two = one ∙ sym two
 
@@ -108,40 +108,41 @@ summed_alike patch choice name bytes places (Refused f) (Done t) alike told = ab
 summed_alike patch choice name bytes places (Refused f) (Refused g) alike told = ap (faulted name bytes places) alike
 
 module _ (laws : ReadOnce) where
-  IsTreatmentOf-one : (mode : Mode) (patch : Patch) (defined : List (List ℕ)) (name bytes : List ℕ) (a b : Treated)
-      → IsTreatmentOf mode patch defined name bytes a
-      → IsTreatmentOf mode patch defined name bytes b → a ≡ b
+  pub IsTreatmentOf-one : (mode : Mode) (patch : Patch) (defined : List (List ℕ)) (name bytes : List ℕ) (a b : Treated)
+      → IsTreatmentOf mode patch defined name bytes a → IsTreatmentOf mode patch defined name bytes b → a ≡ b
   IsTreatmentOf-one mode patch defined name bytes a b (inl one) (inl two) = one.1 ∙ sym two.1
   IsTreatmentOf-one mode patch defined name bytes a b (inl one) (inr two) = absurd (not-both (length bytes) one.0 two.0)
   IsTreatmentOf-one mode patch defined name bytes a b (inr one) (inl two) = absurd (not-both (length bytes) two.0 one.0)
   IsTreatmentOf-one mode patch defined name bytes a b (inr one) (inr two) =
-      let alike = laws.alike mode.unread patch.rules defined bytes one.1.0 two.1.0 one.0 one.1.1.0 two.1.1.0 in
+      let alike = laws.alike mode.tidy mode.unread patch.rules defined bytes one.1.0 two.1.0 one.0 one.1.1.0 two.1.1.0 in
       let places = laws.places bytes one.1.1.1.0 two.1.1.1.0 one.1.1.1.1.0 two.1.1.1.1.0 in
       one.1.1.1.1.1 ∙ ap (λ (p : TextPlaces). treated_by mode patch name bytes (told_places mode.quiet p) one.1.0) places
       ∙ treated_alike mode patch name bytes (told_places mode.quiet two.1.1.1.0) one.1.0 two.1.0 alike.0 alike.1 ∙ sym two.1.1.1.1.1
 
-  IsFileTreatmentOf-one : (holds : Option Files) → IsSome holds → (mode : Mode) (patch : Patch) (defined : List (List ℕ)) (name bytes : List ℕ) (a b : Treated)
+  IsFileTreatmentOf-one : (holds : Option Files) → IsSome holds → (mode : Mode) (patch : Patch) (defined : List (List ℕ))
+      (name bytes : List ℕ) (a b : Treated)
       → IsFileTreatmentOf holds mode patch defined name bytes a → IsFileTreatmentOf holds mode patch defined name bytes b → a ≡ b
-  IsFileTreatmentOf-one holds some mode patch defined name bytes a b (inl one) (inl two) = IsTreatmentOf-one mode patch defined name bytes a b one two
+  IsFileTreatmentOf-one holds some mode patch defined name bytes a b (inl one) (inl two) =
+      IsTreatmentOf-one mode patch defined name bytes a b one two
   IsFileTreatmentOf-one holds some mode patch defined name bytes a b (inl one) (inr two) = absurd (not-untold holds some two.0)
   IsFileTreatmentOf-one holds some mode patch defined name bytes a b (inr one) two = absurd (not-untold holds some one.0)
 
-  Sums-one : (patch : Patch) (defined : List (List ℕ)) (quiet : Bool) (choice : Unread) (name bytes : List ℕ) (a b : Treated)
-      → Sums patch defined quiet choice name bytes a → Sums patch defined quiet choice name bytes b → a ≡ b
-  Sums-one patch defined quiet choice name bytes a b one two =
+  Sums-one : (tidy : Bool) (patch : Patch) (defined : List (List ℕ)) (quiet : Bool) (choice : Unread) (name bytes : List ℕ)
+      (a b : Treated) → Sums tidy patch defined quiet choice name bytes a → Sums tidy patch defined quiet choice name bytes b → a ≡ b
+  Sums-one tidy patch defined quiet choice name bytes a b one two =
       let it = one.1 in
       let at = two.1 in
-      let alike = laws.alike choice patch.rules defined bytes it.0 at.0 one.0 it.1.0 at.1.0 in
+      let alike = laws.alike tidy choice patch.rules defined bytes it.0 at.0 one.0 it.1.0 at.1.0 in
       let places = laws.places bytes it.1.1.0 at.1.1.0 it.1.1.1.0 at.1.1.1.0 in
       it.1.1.1.1 ∙ ap (λ (p : TextPlaces). summed_by patch choice name bytes (told_places quiet p) it.0) places
       ∙ summed_alike patch choice name bytes (told_places quiet at.1.1.0) it.0 at.0 alike.0 alike.1 ∙ sym at.1.1.1.1
 
-  TargetLeads-one : (patch : Patch) (lines : NoteLines) (defined : List (List ℕ)) (target : Target) (a b : Stage) → TargetLeads patch lines defined target a
-      → TargetLeads patch lines defined target b → a ≡ b
+  TargetLeads-one : (patch : Patch) (lines : NoteLines) (defined : List (List ℕ)) (target : Target) (a b : Stage)
+      → TargetLeads patch lines defined target a → TargetLeads patch lines defined target b → a ≡ b
   TargetLeads-one patch lines defined (OnFiles mode names) a b one two = one ∙ sym two
-  TargetLeads-one patch lines defined (OnText seed functions quiet unread) a b one two =
+  TargetLeads-one patch lines defined (OnText seed functions quiet unread tidy) a b one two =
       one.1.1 ∙ ap (λ (t : Treated). Ending t.acts (end_status t.tally))
-      (Sums-one patch defined quiet unread generated_name (generated seed functions) one.0 two.0 one.1.0 two.1.0) ∙ sym two.1.1
+      (Sums-one tidy patch defined quiet unread generated_name (generated seed functions) one.0 two.0 one.1.0 two.1.0) ∙ sym two.1.1
 
   ReadLeads-one : (patch : Patch) (lines : NoteLines) (isos : Option (List ℕ)) (defined : List (List ℕ)) (target : Target) (a b : Stage)
       → ReadLeads patch lines isos defined target a → ReadLeads patch lines isos defined target b → a ≡ b
@@ -190,7 +191,8 @@ module _ (laws : ReadOnce) where
   IsosFileLeads-one (Some bytes) patch lines name defined target a b (inr one) (inl two) = absurd (laws.isos_apart bytes one.0 two.0 one.1.0 two.1.0)
   IsosFileLeads-one (Some bytes) patch lines name defined target a b (inr one) (inr two) =
       let same = laws.isos bytes one.0 two.0 one.1.0 two.1.0 in
-      IsosLead-one two.0 patch lines name defined target a b (subst (λ (is : List Iso). IsosLead is patch lines name defined target a) same one.1.1) two.1.1
+      IsosLead-one two.0 patch lines name defined target a b
+      (subst (λ (is : List Iso). IsosLead is patch lines name defined target a) same one.1.1) two.1.1
 
   FileLeads-one : (holds : Option Files) → IsSome holds → (under : Option (List ℕ)) (patch : Patch) (defined : List (List ℕ)) (mode : Mode) (name : List ℕ)
       (names : List (List ℕ)) (course : Course) (a b : Stage) → FileLeads holds under patch defined mode name names course a

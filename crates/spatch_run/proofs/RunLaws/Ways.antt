@@ -159,9 +159,10 @@ module _ (words : List (List ℕ)) (old : Observed) where
       let path = isos_path patch lines name (Some bytes) defined target before (refusing (forms_line name rule) 3) pending 3 found
       (inr (isos, (are, inl (rule, (many, refl))))) (ends_path old pending 3) in
       whole_run acts (before ++ pending) 3 status path is over
-  ways_are_acts acts status (summed patch lines defined seed functions quiet unread treated before ready sums is over) =
+  ways_are_acts acts status (summed patch lines defined seed functions quiet unread tidy treated before ready sums is over) =
       let s = end_status treated.tally in
-      let path = ready_path patch lines defined (OnText seed functions quiet unread) before (Ending treated.acts s) treated.acts s ready (treated, (sums, refl))
+      let path = ready_path patch lines defined (OnText seed functions quiet unread tidy) before
+      (Ending treated.acts s) treated.acts s ready (treated, (sums, refl))
       (ends_path old treated.acts s) in
       whole_run acts (before ++ treated.acts) s status path is over
   ways_are_acts acts status (filed patch lines defined mode names before rest end ready does is over) =

@@ -34,10 +34,10 @@ module _ (words : List (List ℕ)) (old : Observed) where
       let there = subst (λ (m : Stage). Path old m acts last) leads path in
       let went = files_went patch defined mode names last status over old (first_course lines) [] acts there in
       filed patch lines defined mode names before went.rest went.end ready went.went (ap (λ (x : List Act). before ++ x) went.acts_are) went.status_is
-  ready_why patch lines defined (OnText seed functions quiet unread) before mid acts last status ready leads path over =
+  ready_why patch lines defined (OnText seed functions quiet unread tidy) before mid acts last status ready leads path over =
       let treated : Treated = leads.0 in
       let end_of = ending-at old mid treated.acts (end_status treated.tally) acts last status leads.1.1 path over in
-      summed patch lines defined seed functions quiet unread treated before ready leads.1.0 (ap (λ (x : List Act). before ++ x) end_of.0) end_of.1
+      summed patch lines defined seed functions quiet unread tidy treated before ready leads.1.0 (ap (λ (x : List Act). before ++ x) end_of.0) end_of.1
 
   -- the isomorphisms are read
   forms_why : (patch : Patch) (lines : NoteLines) (name bytes : List ℕ) (defined : List (List ℕ)) (target : Target)

@@ -53,11 +53,18 @@ pub record KeepsLine (acts others : List Act) : Type 0 where
 -- ---- words
 
 abbrev pub quiet_mode : Mode → Mode
-quiet_mode mode = record { witnesses = mode.witnesses; in_place = mode.in_place; check = mode.check; quiet = true; unread = mode.unread }
+quiet_mode mode = record {
+  witnesses = mode.witnesses;
+  in_place = mode.in_place;
+  check = mode.check;
+  quiet = true;
+  unread = mode.unread;
+  tidy = mode.tidy;
+}
 
 abbrev pub quiet_target : Target → Target
 quiet_target (OnFiles mode names) = OnFiles (quiet_mode mode) names
-quiet_target (OnText seed functions quiet unread) = OnText seed functions true unread
+quiet_target (OnText seed functions quiet unread tidy) = OnText seed functions true unread tidy
 
 -- the same is asked for, with `--quiet`
 abbrev pub quiet_order : Order → Order

@@ -1,10 +1,10 @@
 // Words have acts, and runs are complete. The functions do nothing.
-ghost use Rattle.std.specs.Prelude.{◌≡◌, ◌⊎◌, ℕ, List, IsSome, true};
+ghost use Rattle.std.specs.Prelude.{◌≡◌, ◌⊎◌, ℕ, List, IsSome, true, false};
 ghost use Rattle.run_acts.specs.Acts.{Act, Observed};
 ghost use Rattle.run_acts.specs.Breaks.{Counts, NoneRose};
 ghost use Rattle.smpl_patch.specs.declared.rule.Patch.{Patch as Whole};
 ghost use Rattle.run_words.specs.declared.order.Mode.{Mode as HowFiles};
-ghost use Rattle.run_words.specs.Orders.{OnFiles};
+ghost use Rattle.run_words.specs.Orders.{OnFiles, asks_tidy};
 ghost use Rattle.run_files.specs.declared.run_lines.notes.NoteLines.{NoteLines};
 ghost use Rattle.run_files.specs.RunStages.Paths.{AreActs};
 ghost use Rattle.run_files.specs.RunStages.Promise.{EndsRightly};
@@ -12,15 +12,15 @@ ghost use Rattle.run_files.specs.RunStages.Reasons.{PatchReady};
 ghost use Rattle.text_laws.specs.ChainTotal.Weakly.{Weakly};
 ghost use Rattle.spatch_run.specs.RunEnds.Fates.{AllThere, NoneRefused, SomeRefused, NoneHit, SomeHit};
 
-use crate::run_laws::{acts_have_a_reason, statuses_have_a_cause};
+use crate::run_laws::{acts_are_one_list, acts_have_a_reason};
 use read_laws::{bytes_are_read, patches_get_their_forms};
 use smpl_notes::patches_have_notes;
 use smpl_places::faults_have_places;
 use text_laws::chains_have_an_end;
 
-/// It is impossible that some words have no list of acts, whatever a shelf reveals. Does nothing.
+/// It is impossible that some words without `--tidy` have no list of acts, whatever a shelf reveals. Does nothing.
 pub fn words_have_acts()
-    ensures { (words : List (List ℕ)) (old : Observed) →
+    ensures { (words : List (List ℕ)) (old : Observed) → asks_tidy words ≡ false →
         Weakly ((acts : List Act) × ((status : ℕ) × AreActs words old acts status)) }
 {
     bytes_are_read();
@@ -58,6 +58,5 @@ pub fn runs_are_complete()
         PatchReady words old patch lines defined (OnFiles mode names) acts → AllThere patch defined mode old names →
         SomeRefused patch defined mode old names → (status ≡ 4) ⊎ (status ≡ 7) }
 {
-    chains_have_an_end();
-    statuses_have_a_cause();
+    acts_are_one_list();
 }

@@ -24,8 +24,8 @@ returns-in_err-refuse-in-Err-clause-stopped g c =
     let other : c.in-Err.fault ≡ NoMemory → ⊥ = λ e. false≢true (sym c.if-is_no_memory.false ∙ c.is_no_memory.ensures.1 e) in
     let rules = c.args.rules.now in
     let bytes = c.args.bytes.now in
-    let made : EndsBy rules.unread rules.patch.now.rules rules.defined.now bytes (Refused c.in-Err.fault) =
-    rw (← c.in_ok-copy.ensures) (fault_ends rules.unread rules.patch.now.rules rules.defined.now c.in_ok-copy.copy.items c.in-Err.fault other
+    let made : EndsBy rules.tidy rules.unread rules.patch.now.rules rules.defined.now bytes (Refused c.in-Err.fault) =
+    rw (← c.in_ok-copy.ensures) (fault_ends rules.tidy rules.unread rules.patch.now.rules rules.defined.now c.in_ok-copy.copy.items c.in-Err.fault other
     c.in-Err.ensures.result) in
     let found = text_places bytes in
     rw (p.1, p.2) (λ files out stores s o s' o'.
@@ -38,8 +38,8 @@ returns-in_ok-refuse-in-Err-clause-done g c = λ files stores out.
     let other : c.in-Err.fault ≡ NoMemory → ⊥ = λ e. false≢true (sym c.if-is_no_memory.false ∙ c.is_no_memory.ensures.1 e) in
     let rules = c.args.rules.now in
     let bytes = c.args.bytes.now in
-    let made : EndsBy rules.unread rules.patch.now.rules rules.defined.now bytes (Refused c.in-Err.fault) =
-    rw (← c.in_ok-copy.ensures) (fault_ends rules.unread rules.patch.now.rules rules.defined.now c.in_ok-copy.copy.items c.in-Err.fault other
+    let made : EndsBy rules.tidy rules.unread rules.patch.now.rules rules.defined.now bytes (Refused c.in-Err.fault) =
+    rw (← c.in_ok-copy.ensures) (fault_ends rules.tidy rules.unread rules.patch.now.rules rules.defined.now c.in_ok-copy.copy.items c.in-Err.fault other
     c.in-Err.ensures.result) in
     let found = text_places bytes in
     (c.in-Err.fault, (made, (found.0, (found.1, c.in_ok-refuse-in-Err.ensures.done found.0 found.1 files stores out))))

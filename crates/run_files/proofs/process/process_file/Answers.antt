@@ -16,8 +16,9 @@ returns-in_err-applied-clause-stopped g c =
     let rules = c.args.rules.now in let text = c.as_slice-text.result.now in
     let short : length text ≤ 16777216 = rw c.as_slice-text.ensures.value c.requires.short in
     let shelf = c.args.outside.now.shelf.now in let out = c.args.outside.now.out.now in
-    rw (p.1, p.2, ← c.as_slice-text.ensures.value) (refused_part c.args.mode rules.patch.now rules.defined.now c.args.name.now text short rules.unread
-    _ _ _ _ _ c.requires.unread (c.in_err-applied.ensures.stopped (g.S.Loads.holds shelf) (g.O.Sink.written out) (g.S.Loads.stores shelf)
+    rw (p.1, p.2, ← c.as_slice-text.ensures.value) (refused_part c.args.mode rules.patch.now rules.defined.now c.args.name.now text short rules.tidy
+    rules.unread _ _ _ _ _ c.requires.tidy c.requires.unread
+    (c.in_err-applied.ensures.stopped (g.S.Loads.holds shelf) (g.O.Sink.written out) (g.S.Loads.stores shelf)
     (g.S.Loads.faults shelf) (g.O.Sink.faults out) (g.S.Loads.faults shelf) (g.O.Sink.faults out)))
 
 pub returns-in_default-clause-treated : goal.returns-in_default-clause-treated
@@ -25,11 +26,12 @@ returns-in_default-clause-treated g c =
     let rules = c.args.rules.now in let text = c.as_slice-text.result.now in
     let short : length text ≤ 16777216 = rw c.as_slice-text.ensures.value c.requires.short in
     let shelf = c.args.outside.now.shelf.now in let out = c.args.outside.now.out.now in
-    let is = applied_none rules.patch.now rules.defined.now c.args.mode.quiet rules.unread c.args.mode.unread c.args.name.now text
+    let is = applied_none rules.tidy c.args.mode.tidy rules.patch.now rules.defined.now c.args.mode.quiet rules.unread c.args.mode.unread c.args.name.now text
     c.in_ok-applied.field-0
     (observed (g.S.Loads.holds shelf) (g.S.Loads.stores shelf) (g.O.Sink.written out) (g.E.Sink.written c.args.outside.now.err.now))
     (observed (g.S.Loads.holds shelf) (g.S.Loads.stores shelf) (g.O.Sink.written out) (g.E.Sink.written c.apply_or_refuse.new.err))
-    c.requires.unread c.in_default.not-Some (c.in_ok-applied.ensures.done (g.S.Loads.holds shelf) (g.S.Loads.stores shelf) (g.O.Sink.written out)) in
+    c.requires.tidy c.requires.unread c.in_default.not-Some
+    (c.in_ok-applied.ensures.done (g.S.Loads.holds shelf) (g.S.Loads.stores shelf) (g.O.Sink.written out)) in
     rw (c.of_refused.ensures, ← c.as_slice-text.ensures.value) (refused_all c.args.mode rules.patch.now rules.defined.now c.args.name.now text short _ _ is)
 
 -- memory ran out before it was known whether the file is hit
@@ -38,11 +40,11 @@ returns-in_err-hit-clause-stopped g c =
     let p = err_from_is_err_and c.from_residual-in_err-hit.result c.from_residual-in_err-hit.ensures.1 in
     let rules = c.args.rules.now in let text = c.as_slice-text.result.now in
     let shelf = c.args.outside.now.shelf.now in let out = c.args.outside.now.out.now in
-    let is = applied_some rules.patch.now rules.defined.now c.args.mode.quiet rules.unread c.args.mode.unread c.args.name.now text
+    let is = applied_some rules.tidy c.args.mode.tidy rules.patch.now rules.defined.now c.args.mode.quiet rules.unread c.args.mode.unread c.args.name.now text
     c.in_ok-applied.field-0 c.in-Some.applied
     (observed (g.S.Loads.holds shelf) (g.S.Loads.stores shelf) (g.O.Sink.written out) (g.E.Sink.written c.args.outside.now.err.now))
     (observed (g.S.Loads.holds shelf) (g.S.Loads.stores shelf) (g.O.Sink.written out) (g.E.Sink.written c.apply_or_refuse.new.err))
-    c.requires.unread c.in-Some.is (c.in_ok-applied.ensures.done (g.S.Loads.holds shelf) (g.S.Loads.stores shelf) (g.O.Sink.written out)) in
+    c.requires.tidy c.requires.unread c.in-Some.is (c.in_ok-applied.ensures.done (g.S.Loads.holds shelf) (g.S.Loads.stores shelf) (g.O.Sink.written out)) in
     rw (p.1, p.2) (earlier refl is.1.1.1)
 
 pub returns-in_err-report_skipped-clause-stopped : goal.returns-in_err-report_skipped-clause-stopped
@@ -51,11 +53,11 @@ returns-in_err-report_skipped-clause-stopped g c =
     let rules = c.args.rules.now in let text = c.as_slice-text.result.now in
     let short : length text ≤ 16777216 = rw c.as_slice-text.ensures.value c.requires.short in
     let shelf = c.args.outside.now.shelf.now in let out = c.args.outside.now.out.now in
-    let is = applied_some rules.patch.now rules.defined.now c.args.mode.quiet rules.unread c.args.mode.unread c.args.name.now text
+    let is = applied_some rules.tidy c.args.mode.tidy rules.patch.now rules.defined.now c.args.mode.quiet rules.unread c.args.mode.unread c.args.name.now text
     c.in_ok-applied.field-0 c.in-Some.applied
     (observed (g.S.Loads.holds shelf) (g.S.Loads.stores shelf) (g.O.Sink.written out) (g.E.Sink.written c.args.outside.now.err.now))
     (observed (g.S.Loads.holds shelf) (g.S.Loads.stores shelf) (g.O.Sink.written out) (g.E.Sink.written c.apply_or_refuse.new.err))
-    c.requires.unread c.in-Some.is (c.in_ok-applied.ensures.done (g.S.Loads.holds shelf) (g.S.Loads.stores shelf) (g.O.Sink.written out)) in
+    c.requires.tidy c.requires.unread c.in-Some.is (c.in_ok-applied.ensures.done (g.S.Loads.holds shelf) (g.S.Loads.stores shelf) (g.O.Sink.written out)) in
     let found = text_places text in
     let fell : NoneFell (counts (g.S.Loads.faults shelf) (g.O.Sink.faults out) (g.E.Sink.faults c.args.outside.now.err.now))
     (counts (g.S.Loads.faults shelf) (g.O.Sink.faults out) (g.E.Sink.faults c.apply_or_refuse.new.err)) =
@@ -71,11 +73,11 @@ returns-in_err-show_file-clause-stopped g c =
     let rules = c.args.rules.now in let text = c.as_slice-text.result.now in
     let short : length text ≤ 16777216 = rw c.as_slice-text.ensures.value c.requires.short in
     let shelf = c.args.outside.now.shelf.now in let out = c.args.outside.now.out.now in
-    let is = applied_some rules.patch.now rules.defined.now c.args.mode.quiet rules.unread c.args.mode.unread c.args.name.now text
+    let is = applied_some rules.tidy c.args.mode.tidy rules.patch.now rules.defined.now c.args.mode.quiet rules.unread c.args.mode.unread c.args.name.now text
     c.in_ok-applied.field-0 c.in-Some.applied
     (observed (g.S.Loads.holds shelf) (g.S.Loads.stores shelf) (g.O.Sink.written out) (g.E.Sink.written c.args.outside.now.err.now))
     (observed (g.S.Loads.holds shelf) (g.S.Loads.stores shelf) (g.O.Sink.written out) (g.E.Sink.written c.apply_or_refuse.new.err))
-    c.requires.unread c.in-Some.is (c.in_ok-applied.ensures.done (g.S.Loads.holds shelf) (g.S.Loads.stores shelf) (g.O.Sink.written out)) in
+    c.requires.tidy c.requires.unread c.in-Some.is (c.in_ok-applied.ensures.done (g.S.Loads.holds shelf) (g.S.Loads.stores shelf) (g.O.Sink.written out)) in
     let found = text_places text in
     let fell : NoneFell (counts (g.S.Loads.faults shelf) (g.O.Sink.faults out) (g.E.Sink.faults c.args.outside.now.err.now))
     (counts (g.S.Loads.faults shelf) (g.O.Sink.faults out) (g.E.Sink.faults c.report_skipped.new.err)) =
@@ -93,11 +95,11 @@ returns-in_err-store_file-clause-stopped g c =
     let rules = c.args.rules.now in let text = c.as_slice-text.result.now in
     let short : length text ≤ 16777216 = rw c.as_slice-text.ensures.value c.requires.short in
     let shelf = c.args.outside.now.shelf.now in let out = c.args.outside.now.out.now in let name = c.args.name.now in
-    let is = applied_some rules.patch.now rules.defined.now c.args.mode.quiet rules.unread c.args.mode.unread c.args.name.now text
+    let is = applied_some rules.tidy c.args.mode.tidy rules.patch.now rules.defined.now c.args.mode.quiet rules.unread c.args.mode.unread c.args.name.now text
     c.in_ok-applied.field-0 c.in-Some.applied
     (observed (g.S.Loads.holds shelf) (g.S.Loads.stores shelf) (g.O.Sink.written out) (g.E.Sink.written c.args.outside.now.err.now))
     (observed (g.S.Loads.holds shelf) (g.S.Loads.stores shelf) (g.O.Sink.written out) (g.E.Sink.written c.apply_or_refuse.new.err))
-    c.requires.unread c.in-Some.is (c.in_ok-applied.ensures.done (g.S.Loads.holds shelf) (g.S.Loads.stores shelf) (g.O.Sink.written out)) in
+    c.requires.tidy c.requires.unread c.in-Some.is (c.in_ok-applied.ensures.done (g.S.Loads.holds shelf) (g.S.Loads.stores shelf) (g.O.Sink.written out)) in
     let found = text_places text in
     let fell : NoneFell (counts (g.S.Loads.faults shelf) (g.O.Sink.faults out) (g.E.Sink.faults c.args.outside.now.err.now))
     (counts (g.S.Loads.faults c.show_file.new.outside.shelf.now) (g.O.Sink.faults c.show_file.new.outside.out.now)
@@ -121,11 +123,11 @@ returns-clause-treated g c =
     let rules = c.args.rules.now in let text = c.as_slice-text.result.now in
     let short : length text ≤ 16777216 = rw c.as_slice-text.ensures.value c.requires.short in
     let shelf = c.args.outside.now.shelf.now in let out = c.args.outside.now.out.now in let name = c.args.name.now in
-    let is = applied_some rules.patch.now rules.defined.now c.args.mode.quiet rules.unread c.args.mode.unread c.args.name.now text
+    let is = applied_some rules.tidy c.args.mode.tidy rules.patch.now rules.defined.now c.args.mode.quiet rules.unread c.args.mode.unread c.args.name.now text
     c.in_ok-applied.field-0 c.in-Some.applied
     (observed (g.S.Loads.holds shelf) (g.S.Loads.stores shelf) (g.O.Sink.written out) (g.E.Sink.written c.args.outside.now.err.now))
     (observed (g.S.Loads.holds shelf) (g.S.Loads.stores shelf) (g.O.Sink.written out) (g.E.Sink.written c.apply_or_refuse.new.err))
-    c.requires.unread c.in-Some.is (c.in_ok-applied.ensures.done (g.S.Loads.holds shelf) (g.S.Loads.stores shelf) (g.O.Sink.written out)) in
+    c.requires.tidy c.requires.unread c.in-Some.is (c.in_ok-applied.ensures.done (g.S.Loads.holds shelf) (g.S.Loads.stores shelf) (g.O.Sink.written out)) in
     let found = text_places text in
     let left : is.0.page.bytes ≡ c.deref.result.now = sym (c.deref.ensures.value ∙ is.1.1.0.bytes) in
     rw (← c.as_slice-text.ensures.value) (treated_all c.args.mode rules.patch.now rules.defined.now name text short is.0 is.1.0

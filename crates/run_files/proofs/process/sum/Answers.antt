@@ -13,19 +13,19 @@ returns-in_err-applied-clause-stopped g c =
     let rules = c.args.rules.now in let out = c.args.out.now in
     let short : length c.as_slice-text.result.now ≤ 16777216 = rw c.as_slice-text.ensures.value c.requires.short in
     rw (p.1, p.2, ← c.as_slice-text.ensures.value) (λ files stores n n'.
-    sum_refused_part rules.patch.now rules.defined.now c.args.quiet rules.unread c.as_slice-text.result.now short _ _ _ _ _
+    sum_refused_part rules.tidy rules.patch.now rules.defined.now c.args.quiet rules.unread c.as_slice-text.result.now short _ _ _ _ _
     (c.in_err-applied.ensures.stopped files (g.O.Sink.written out) stores n (g.O.Sink.faults out) n' (g.O.Sink.faults out)))
 
 pub returns-in_default-clause-treated : goal.returns-in_default-clause-treated
 returns-in_default-clause-treated g c = rw (c.of_refused.ensures, ← c.as_slice-text.ensures.value) (λ files stores.
     let rules = c.args.rules.now in let out = c.args.out.now in
     let short : length c.as_slice-text.result.now ≤ 16777216 = rw c.as_slice-text.ensures.value c.requires.short in
-    let is = applied_none rules.patch.now rules.defined.now c.args.quiet rules.unread rules.unread generated_name
+    let is = applied_none rules.tidy rules.tidy rules.patch.now rules.defined.now c.args.quiet rules.unread rules.unread generated_name
     c.as_slice-text.result.now c.in_ok-applied.field-0
     (observed files stores (g.O.Sink.written out) (g.E.Sink.written c.args.err.now))
     (observed files stores (g.O.Sink.written out) (g.E.Sink.written c.apply_or_refuse.new.err))
-    refl c.in_default.not-Some (c.in_ok-applied.ensures.done files stores (g.O.Sink.written out)) in
-    sum_refused_all rules.patch.now rules.defined.now c.args.quiet rules.unread c.as_slice-text.result.now short _ _ is)
+    refl refl c.in_default.not-Some (c.in_ok-applied.ensures.done files stores (g.O.Sink.written out)) in
+    sum_refused_all rules.tidy rules.patch.now rules.defined.now c.args.quiet rules.unread c.as_slice-text.result.now short _ _ is)
 
 pub returns-in_err-report_skipped-clause-stopped : goal.returns-in_err-report_skipped-clause-stopped
 returns-in_err-report_skipped-clause-stopped g c =
@@ -33,16 +33,16 @@ returns-in_err-report_skipped-clause-stopped g c =
     let rules = c.args.rules.now in let out = c.args.out.now in
     let short : length c.as_slice-text.result.now ≤ 16777216 = rw c.as_slice-text.ensures.value c.requires.short in
     rw (p.1, p.2, ← c.as_slice-text.ensures.value) (λ files stores n n'.
-    let is = applied_some rules.patch.now rules.defined.now c.args.quiet rules.unread rules.unread generated_name
+    let is = applied_some rules.tidy rules.tidy rules.patch.now rules.defined.now c.args.quiet rules.unread rules.unread generated_name
     c.as_slice-text.result.now c.in_ok-applied.field-0 c.in-Some.applied
     (observed files stores (g.O.Sink.written out) (g.E.Sink.written c.args.err.now))
     (observed files stores (g.O.Sink.written out) (g.E.Sink.written c.apply_or_refuse.new.err))
-    refl c.in-Some.is (c.in_ok-applied.ensures.done files stores (g.O.Sink.written out)) in
+    refl refl c.in-Some.is (c.in_ok-applied.ensures.done files stores (g.O.Sink.written out)) in
     let found = text_places c.as_slice-text.result.now in
     let fell : NoneFell (counts n (g.O.Sink.faults out) (g.E.Sink.faults c.args.err.now))
     (counts n (g.O.Sink.faults out) (g.E.Sink.faults c.apply_or_refuse.new.err)) =
     record { shelf = omega arith; out = omega arith; err = c.in_ok-applied.ensures.later } in
-    sum_stopped_in_lines rules.patch.now rules.defined.now c.args.quiet rules.unread c.as_slice-text.result.now short is.0 is.1.0
+    sum_stopped_in_lines rules.tidy rules.patch.now rules.defined.now c.args.quiet rules.unread c.as_slice-text.result.now short is.0 is.1.0
     found.0 found.1 c.as_slice.result.now (c.as_slice.ensures ∙ is.1.1.0.skipped) _ _ _ _ _ _ _ fell is.1.1.1
     (c.in_err-report_skipped.ensures.stopped found.0 found.1 files (g.O.Sink.written out) stores n (g.O.Sink.faults out) n' (g.O.Sink.faults out)))
 
@@ -52,16 +52,16 @@ returns-in_err-show_summary-clause-stopped g c =
     let rules = c.args.rules.now in let out = c.args.out.now in
     let short : length c.as_slice-text.result.now ≤ 16777216 = rw c.as_slice-text.ensures.value c.requires.short in
     rw (p.1, p.2, ← c.as_slice-text.ensures.value) (λ files stores n n'.
-    let is = applied_some rules.patch.now rules.defined.now c.args.quiet rules.unread rules.unread generated_name
+    let is = applied_some rules.tidy rules.tidy rules.patch.now rules.defined.now c.args.quiet rules.unread rules.unread generated_name
     c.as_slice-text.result.now c.in_ok-applied.field-0 c.in-Some.applied
     (observed files stores (g.O.Sink.written out) (g.E.Sink.written c.args.err.now))
     (observed files stores (g.O.Sink.written out) (g.E.Sink.written c.apply_or_refuse.new.err))
-    refl c.in-Some.is (c.in_ok-applied.ensures.done files stores (g.O.Sink.written out)) in
+    refl refl c.in-Some.is (c.in_ok-applied.ensures.done files stores (g.O.Sink.written out)) in
     let found = text_places c.as_slice-text.result.now in
     let fell : NoneFell (counts n (g.O.Sink.faults out) (g.E.Sink.faults c.args.err.now))
     (counts n (g.O.Sink.faults out) (g.E.Sink.faults c.report_skipped.new.err)) =
     record { shelf = omega arith; out = omega arith; err = omega (arith, c.in_ok-applied.ensures.later, c.in_ok-report_skipped.ensures.later) } in
-    stopped_in_summary rules.patch.now rules.defined.now c.args.quiet rules.unread c.as_slice-text.result.now short is.0 is.1.0
+    stopped_in_summary rules.tidy rules.patch.now rules.defined.now c.args.quiet rules.unread c.as_slice-text.result.now short is.0 is.1.0
     found.0 found.1 c.as_slice.result.now (c.as_slice.ensures ∙ is.1.1.0.skipped) _ _ _ _ _ _ _ _ fell is.1.1.1
     (c.in_ok-report_skipped.ensures.done found.0 found.1 files stores (g.O.Sink.written out))
     (c.in_err-show_summary.ensures.stopped rules.unread is.0 files stores n n' is.1.1.0))
@@ -70,13 +70,13 @@ pub returns-clause-treated : goal.returns-clause-treated
 returns-clause-treated g c = rw (← c.as_slice-text.ensures.value) (λ files stores.
     let rules = c.args.rules.now in let out = c.args.out.now in
     let short : length c.as_slice-text.result.now ≤ 16777216 = rw c.as_slice-text.ensures.value c.requires.short in
-    let is = applied_some rules.patch.now rules.defined.now c.args.quiet rules.unread rules.unread generated_name
+    let is = applied_some rules.tidy rules.tidy rules.patch.now rules.defined.now c.args.quiet rules.unread rules.unread generated_name
     c.as_slice-text.result.now c.in_ok-applied.field-0 c.in-Some.applied
     (observed files stores (g.O.Sink.written out) (g.E.Sink.written c.args.err.now))
     (observed files stores (g.O.Sink.written out) (g.E.Sink.written c.apply_or_refuse.new.err))
-    refl c.in-Some.is (c.in_ok-applied.ensures.done files stores (g.O.Sink.written out)) in
+    refl refl c.in-Some.is (c.in_ok-applied.ensures.done files stores (g.O.Sink.written out)) in
     let found = text_places c.as_slice-text.result.now in
-    summed_all rules.patch.now rules.defined.now c.args.quiet rules.unread c.as_slice-text.result.now short is.0 is.1.0
+    summed_all rules.tidy rules.patch.now rules.defined.now c.args.quiet rules.unread c.as_slice-text.result.now short is.0 is.1.0
     found.0 found.1 c.as_slice.result.now (c.as_slice.ensures ∙ is.1.1.0.skipped) c.has_witness.result _ _ _ _
     (c.has_witness.ensures rules.unread is.0 is.1.1.0) is.1.1.1
     (c.in_ok-report_skipped.ensures.done found.0 found.1 files stores (g.O.Sink.written out))

@@ -25,4 +25,5 @@ returns c =
     let a11 = c.in_ok-arg-11.ensures.shape c.flag-4.ensures.local ∙ ap₂ with_rule a10 c.flag-4.ensures.rule in
     let a12 = c.in_ok-arg-12.ensures.shape c.flag-5.ensures.local ∙ ap₂ with_rule a11 c.flag-5.ensures.rule in
     let a13 = c.in_ok-arg-13.ensures.shape c.flag-6.ensures.local ∙ ap₂ with_rule a12 c.flag-6.ensures.rule in
-    IfOk-weaker c.arg-14.result _ _ (λ m h. h.shape c.files.ensures.local ∙ ap₂ with_rule a13 c.files.ensures.rule) c.arg-14.ensures
+    let a14 = c.in_ok-arg-14.ensures.shape c.flag-7.ensures.local ∙ ap₂ with_rule a13 c.flag-7.ensures.rule in
+    IfOk-weaker c.arg-15.result _ _ (λ m h. h.shape c.files.ensures.local ∙ ap₂ with_rule a14 c.files.ensures.rule) c.arg-15.ensures

@@ -1,5 +1,6 @@
-use Rattle.spatch_run.proofs.RunLaws.Unique.{ReadOnce}
+use Rattle.spatch_run.proofs.RunLaws.Unique.{ReadOnce, IsTreatmentOf-one}
 use Rattle.spatch_run.proofs.RunLaws.OnePath.{acts_one, first_acts}
+use Rattle.spatch_run.proofs.RunLaws.ReadyFiles.{files_follow}
 use Rattle.spatch_run.proofs.run_laws.acts_are_one_list.Goals as goal
 
 pub returns : goal.returns
@@ -17,9 +18,9 @@ returns c =
       whole_apart = c.patches_are_expanded_once.ensures.apart;
       patch_place = c.faults_have_one_place.ensures;
       places = c.places_are_one.ensures;
-      alike = λ choice rules defined bytes end other short one two. (
-        c.unread_changes_notes_alone.ensures.alike choice choice rules defined bytes end other short one two,
-        c.unread_changes_notes_alone.ensures.told choice rules defined bytes end other short one two,
+      alike = λ tidy choice rules defined bytes end other short one two. (
+        c.unread_changes_notes_alone.ensures.alike tidy choice choice rules defined bytes end other short one two,
+        c.unread_changes_notes_alone.ensures.told tidy choice rules defined bytes end other short one two,
       );
     } in
-    record { same = acts_one laws; begins = first_acts laws }
+    record { same = acts_one laws; begins = first_acts laws; files = files_follow laws; treated = IsTreatmentOf-one laws }

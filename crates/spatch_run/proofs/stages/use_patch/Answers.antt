@@ -1,7 +1,7 @@
 use Rattle.std.proofs.Common.{◌≡◌, ◌∙◌, [], map, refl, ap}
 use Rattle.std.proofs.lemmas.Result.{err_from_is_err_and}
 use Rattle.run_acts.proofs.BreaksLemmas.{NoneFell-refl}
-use Rattle.run_words.specs.Orders.{unread_of}
+use Rattle.run_words.specs.Orders.{is_tidy, unread_of}
 use Rattle.run_words.specs.Shown.{shown_target}
 use Rattle.run_files.specs.RunStages.Stages.{first_course, going}
 use Rattle.run_files.specs.RunStages.Ends.LeadsBy.{unfed, from}
@@ -39,5 +39,7 @@ returns-in-Files-clause-ends g c =
 pub returns-clause-ends : goal.returns-clause-ends
 returns-clause-ends g c =
     let told : c.unread-unread.result ≡ c.in-Text.field-3 = c.unread-unread.ensures.unread ∙ ap (λ t. unread_of (shown_target t)) c.in-Text.is in
+    let tidied : c.is_tidy-tidy.result ≡ c.in-Text.field-4 = c.is_tidy-tidy.ensures.tidy ∙ ap (λ t. is_tidy (shown_target t)) c.in-Text.is in
     rw c.in-Text.is (leads_as c.args.patch.now c.args.notes.now c.args.order.now.defined.items c.in-Text.seed c.in-Text.functions c.in-Text.quiet
-    c.unread-unread.result c.in-Text.field-3 told (rw c.deref.ensures.value at (c.sum_text.ensures.ends c.args.notes.now)))
+    c.unread-unread.result c.in-Text.field-3 c.is_tidy-tidy.result c.in-Text.field-4 told tidied
+    (rw c.deref.ensures.value at (c.sum_text.ensures.ends c.args.notes.now)))

@@ -23,7 +23,7 @@ returns-in_err-tally-clause-ends g c =
     (counts s (g.O.Sink.faults c.sum.new.out) (g.E.Sink.faults c.sum.new.err)) =
     record { shelf = omega arith; out = c.in_err-tally.ensures.later; err = c.in_err-tally.ensures.later_err } in
     rw (p.1, p.2) (λ notes. sum_cut c.args.rules.now.patch.now notes c.args.rules.now.defined.now c.args.seed c.args.functions c.args.quiet
-    c.args.rules.now.unread fell
+    c.args.rules.now.unread c.args.rules.now.tidy fell
     (rw c.in_ok-text.ensures.text at (c.in_err-tally.ensures.stopped (g.S.Loads.holds old.shelf.now) (g.S.Loads.stores old.shelf.now) s s)))
 
 pub returns-clause-ends : goal.returns-clause-ends
@@ -34,5 +34,5 @@ returns-clause-ends g c =
     (counts s (g.O.Sink.faults c.sum.new.out) (g.E.Sink.faults c.sum.new.err)) =
     record { shelf = omega arith; out = c.in_ok-tally.ensures.later; err = c.in_ok-tally.ensures.later_err } in
     λ notes. sum_done c.args.rules.now.patch.now notes c.args.rules.now.defined.now c.args.seed c.args.functions c.args.quiet
-    c.args.rules.now.unread c.in_ok-tally.tally fell
+    c.args.rules.now.unread c.args.rules.now.tidy c.in_ok-tally.tally fell
     c.end_status.ensures (rw c.in_ok-text.ensures.text at (c.in_ok-tally.ensures.treated (g.S.Loads.holds old.shelf.now) (g.S.Loads.stores old.shelf.now)))

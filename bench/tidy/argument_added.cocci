@@ -1,0 +1,6 @@
+@@
+expression E;
+@@
+  msleep(E
++ , 0
+  )

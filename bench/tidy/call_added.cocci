@@ -1,0 +1,5 @@
+@@
+expression E;
+@@
+  kfree(E);
++ E = NULL;

@@ -1,0 +1,5 @@
+@@
+expression n, d;
+@@
+- DIV_ROUND_UP(n, d)
++ n / d

@@ -1,0 +1,4 @@
+@@
+expression E;
+@@
+- kfree(E);

@@ -1,0 +1,4 @@
+void f(void)
+{
+	old(x + 1);
+}

@@ -1,0 +1,5 @@
+@@
+expression x;
+@@
+- d(x);
++ { e(x); g(x); }

@@ -1,0 +1,4 @@
+void f(void)
+{
+	f(x); f(x, b);
+}

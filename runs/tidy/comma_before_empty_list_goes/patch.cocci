@@ -1,0 +1,6 @@
+@@
+expression x;
+expression list es;
+@@
+- f(x, es)
++ g(1, es)

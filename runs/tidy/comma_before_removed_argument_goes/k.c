@@ -1,0 +1,5 @@
+void f(void)
+{
+	f(a); f(a,
+	  b);
+}

@@ -1,0 +1,5 @@
+@@
+expression list es;
+@@
+- f(es)
++ f(es, 1)

@@ -1,0 +1,4 @@
+void f(void)
+{
+	f(a); f(a, b);
+}

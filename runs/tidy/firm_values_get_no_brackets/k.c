@@ -1,0 +1,4 @@
+void f(void)
+{
+	y = mul(f(x), p->n);
+}

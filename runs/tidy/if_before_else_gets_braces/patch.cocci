@@ -1,0 +1,5 @@
+@@
+expression x;
+@@
+- d(x);
++ if (x) e(x);

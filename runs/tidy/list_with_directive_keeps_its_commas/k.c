@@ -1,0 +1,10 @@
+void g(void)
+{
+	f(a,
+#ifdef B
+	  b,
+#endif
+	  c);
+	f(a,
+	  c);
+}

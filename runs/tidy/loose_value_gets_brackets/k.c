@@ -1,0 +1,4 @@
+void f(void)
+{
+	y = mul(x + 1, 2);
+}

@@ -1,0 +1,6 @@
+void f(void)
+{
+	if (a)
+		d(a);
+	b();
+}

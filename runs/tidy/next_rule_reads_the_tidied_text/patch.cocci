@@ -1,0 +1,10 @@
+@@
+expression x;
+@@
+- d(x);
+
+@@
+expression x;
+@@
+- if (x) ;
++ g(x);

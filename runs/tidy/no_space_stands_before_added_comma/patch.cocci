@@ -1,0 +1,6 @@
+@@
+expression d, n;
+@@
+  f(d, n
++ , GFP
+  )

@@ -1,0 +1,4 @@
+@@
+expression x;
+@@
+- do d(x); while (x);

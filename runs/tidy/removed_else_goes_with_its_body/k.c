@@ -1,0 +1,7 @@
+void f(void)
+{
+	if (a)
+		b();
+	else
+		d(a);
+}

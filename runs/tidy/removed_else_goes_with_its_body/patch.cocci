@@ -1,0 +1,5 @@
+@@
+expression x;
+@@
+  if (x) b();
+- else d(x);

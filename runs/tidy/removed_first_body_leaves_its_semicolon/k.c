@@ -1,0 +1,7 @@
+void f(void)
+{
+	if (a)
+		d(a);
+	else
+		b();
+}

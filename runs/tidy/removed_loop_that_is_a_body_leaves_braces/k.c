@@ -1,0 +1,6 @@
+void f(void)
+{
+	if (a)
+		while (a)
+			d(a);
+}

@@ -1,0 +1,4 @@
+void f(void)
+{
+	p = dev_alloc(d, 10);
+}

@@ -1,0 +1,6 @@
+@@
+expression x;
+@@
+  if (x)
+- d(x); else
+  b();

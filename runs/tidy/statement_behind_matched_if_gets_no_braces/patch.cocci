@@ -1,0 +1,5 @@
+@@
+expression x;
+@@
+  if (!x) return;
++ init(x);

@@ -1,0 +1,6 @@
+void f(void)
+{
+	while (c)
+		if (!a)
+			return;
+}

@@ -1,0 +1,5 @@
+void f(void)
+{
+	d(
+			a);
+}

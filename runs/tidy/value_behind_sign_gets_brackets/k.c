@@ -1,0 +1,4 @@
+void f(void)
+{
+	y = neg(-x) + neg(a + b);
+}

@@ -1,0 +1,4 @@
+void f(void)
+{
+	return (d + 1)->priv->n;
+}
